@@ -1,0 +1,3 @@
+mod FilesLemmas
+mod HostLemmas
+mod SinkLemmas
