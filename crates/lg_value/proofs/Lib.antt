@@ -1,0 +1,4 @@
+pub mod BitLemmas
+pub mod DriverLemmas
+pub mod WordLemmas
+pub mod StorageLemmas

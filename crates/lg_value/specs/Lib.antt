@@ -1,0 +1,4 @@
+pub mod Bit
+pub mod Drivers
+pub mod Storage
+pub mod Word
