@@ -1,0 +1,10 @@
+pub mod Spans
+pub mod Marks
+pub mod Pieces
+pub mod Tags
+pub mod Elements
+pub mod Loops
+pub mod Numbers
+pub mod Each
+pub mod Plainness
+pub mod Whole

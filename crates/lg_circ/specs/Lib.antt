@@ -1,0 +1,5 @@
+pub mod Tree
+pub mod Grammar
+pub mod Meaning
+pub mod Plain
+pub mod Reading

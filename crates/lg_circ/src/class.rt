@@ -1,0 +1,82 @@
+//! The bytes that the pieces of a text are made of.
+
+ghost use Rattle.std.specs.Prelude.{◌≡◌};
+ghost use Rattle.std.specs.List.{prefix_len};
+ghost use Rattle.lg_circ.specs.Grammar.{begins_name};
+ghost use Rattle.lg_circ.specs.Reading.{passes, begins, front_of, rest_of};
+
+/// Which bytes a piece of the text is made of.
+#[derive(Clone, Copy)]
+pub enum Class {
+    /// Space, tab, carriage return and line feed.
+    White,
+    /// What a name begins with.
+    NameStart,
+    /// What a name goes on with.
+    Name,
+    /// What stands for itself between two `"`.
+    Quoted,
+    /// What stands for itself between two tags.
+    Own,
+    /// `>` and `/`.
+    TagEnd,
+}
+
+impl Class {
+    /// Whether the byte is of the class.
+    pub fn holds(self, c: u8) -> bool
+        ensures { result ≡ passes self c }
+    {
+        match self {
+            Class::White => c == b' ' || c == b'\t' || c == b'\r' || c == b'\n',
+            Class::NameStart => starts_name(c),
+            Class::Name => starts_name(c) || (b'0' <= c && c <= b'9') || c == b'-' || c == b'.',
+            Class::Quoted => c != b'<' && c != b'&' && c != b'"',
+            Class::Own => c != b'<' && c != b'&',
+            Class::TagEnd => c == b'>' || c == b'/',
+        }
+    }
+}
+
+fn starts_name(c: u8) -> bool
+    ensures { result ≡ begins_name c }
+{
+    (b'A' <= c && c <= b'Z') || (b'a' <= c && c <= b'z') || c == b'_' || c == b':'
+}
+
+/// Whether the first byte is of the class.
+pub fn begins_with(text: &str, class: Class) -> bool
+    ensures { result ≡ begins (passes class) text.now }
+{
+    match text.as_bytes() {
+        [] => false,
+        [first, ..] => class.holds(*first),
+    }
+}
+
+/// How many bytes at the front are of the class.
+fn front_len(bytes: &[u8], class: Class) -> usize
+    ensures { result ≡ prefix_len (passes class) bytes.now }
+{
+    for (at, c) in bytes.iter().enumerate() {
+        if !class.holds(*c) {
+            return at;
+        }
+    }
+    bytes.len()
+}
+
+/// The bytes of the class at the front, and what follows them.
+pub fn split_after(text: &str, class: Class) -> (&str, &str)
+    ensures front { result.0.now ≡ front_of (passes class) text.now }
+    ensures rest { result.1.now ≡ rest_of (passes class) text.now }
+{
+    text.split_at(front_len(text.as_bytes(), class))
+}
+
+/// What follows the bytes of the class at the front.
+pub fn skip(text: &str, class: Class) -> &str
+    ensures { result.now ≡ rest_of (passes class) text.now }
+{
+    split_after(text, class).1
+}

@@ -1,0 +1,33 @@
+//! Why a project was not read.
+
+ghost use Rattle.std.specs.Prelude.{◌≡◌};
+ghost use Rattle.lg_circ.specs.declared.fault.CircFault.TheVariants.{Memory};
+
+use std::alloc::{AllocError, AllocFailed};
+
+/// Why `read_project` gives no project.
+#[derive(Clone, Copy, Debug, PartialEq, Eq)]
+pub enum CircFault {
+    /// The text has more than 8,388,608 bytes.
+    TooLong,
+    /// The text is no plain project, and no other is read yet.
+    NotBuilt,
+    /// There was no memory.
+    Memory,
+}
+
+impl From<AllocError> for CircFault {
+    ghost from_gives = { λ _ e. e ≡ Memory };
+
+    fn from(_e: AllocError) -> CircFault {
+        CircFault::Memory
+    }
+}
+
+impl<T: Drop> From<AllocFailed<T>> for CircFault {
+    ghost from_gives = { λ _ e. e ≡ Memory };
+
+    fn from(_e: AllocFailed<T>) -> CircFault {
+        CircFault::Memory
+    }
+}
