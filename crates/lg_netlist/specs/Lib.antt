@@ -1,0 +1,4 @@
+pub mod Names
+pub mod Numbering
+pub mod Cell
+pub mod Static
