@@ -1,0 +1,3 @@
+pub mod NetLemmas
+pub mod RoleLemmas
+pub mod UseLemmas

@@ -1,0 +1,18 @@
+//! The flat netlist of a sheet: what its components are, and the parts, pins and nets that they make.
+#![tactic(auto)]
+
+mod flat;
+mod labels;
+mod parts;
+mod pins;
+mod places;
+mod role;
+mod settings;
+mod uses;
+
+pub use flat::netlist;
+pub use role::Role;
+pub use uses::roles;
+
+#[cfg(test)]
+mod tests;

@@ -1,0 +1,240 @@
+use super::*;
+use lg_circ::{Attrs, Comp, Point, Sheet};
+use lg_netlist::{Cell, Netlist};
+use lg_text::Text;
+use sqlite_items::Items;
+use std::alloc::{AllocError, Global};
+use std::process::Abort;
+use std::test::Fail;
+
+// Stands for no setting in a table.
+const NONE: (&str, &str) = ("", "");
+
+fn texts(alloc: Global, pairs: &[(&str, &str)]) -> Result<Items<(Text, Text)>, AllocError> {
+    let mut items = Items::new(alloc);
+    for (name, value) in pairs {
+        if !name.is_empty() {
+            items.push((Text::copy_of(alloc, name)?, Text::copy_of(alloc, value)?))?;
+        }
+    }
+    Ok(items)
+}
+
+fn comp(
+    alloc: Global,
+    lib: &str,
+    name: &str,
+    x: i32,
+    y: i32,
+    settings: &[(&str, &str)],
+) -> Result<Comp, AllocError> {
+    Ok(Comp {
+        lib: if lib.is_empty() {
+            None
+        } else {
+            Some(Text::copy_of(alloc, lib)?)
+        },
+        name: Text::copy_of(alloc, name)?,
+        loc: Point { x, y },
+        attrs: Attrs {
+            list: texts(alloc, settings)?,
+        },
+    })
+}
+
+fn libs(alloc: Global) -> Result<Items<(Text, Text)>, AllocError> {
+    texts(
+        alloc,
+        &[("0", "#Wiring"), ("1", "#Gates"), ("2", "#Memory")],
+    )
+}
+
+fn role(alloc: Global, comp: Comp) -> Result<Option<Role>, AllocError> {
+    let libs = libs(alloc)?;
+    let mut comps = Items::new(alloc);
+    comps.push(comp)?;
+    match roles(alloc, libs.as_slice(), comps.as_slice())? {
+        Some(found) => Ok(found.first().copied()),
+        None => Ok(None),
+    }
+}
+
+const INPUT: Option<Role> = Some(Role::Pin { input: true });
+
+const OUTPUT: Option<Role> = Some(Role::Pin { input: false });
+
+fn gate(cell: Cell, size: u32) -> Option<Role> {
+    Some(Role::Gate { cell, size })
+}
+
+#[test]
+fn pins_and_gates_are_told_by_library_name_and_settings(rt: HostRuntime) -> Result<(), Fail> {
+    let cases = [
+        ("0", "Pin", NONE, NONE, INPUT),
+        ("0", "Pin", ("label", "A"), NONE, INPUT),
+        ("0", "Pin", ("output", "false"), NONE, INPUT),
+        ("0", "Pin", ("output", "true"), ("label", "Y"), OUTPUT),
+        ("0", "Pin", ("output", "yes"), NONE, None),
+        ("0", "Pin", ("width", "8"), NONE, None),
+        ("0", "Clock", NONE, NONE, None),
+        ("1", "Pin", NONE, NONE, None),
+        ("1", "NOT Gate", NONE, NONE, gate(Cell::Not, 30)),
+        ("1", "NOT Gate", ("size", "20"), NONE, gate(Cell::Not, 20)),
+        ("1", "NOT Gate", ("size", "30"), NONE, gate(Cell::Not, 30)),
+        ("1", "NOT Gate", ("size", "50"), NONE, None),
+        ("1", "AND Gate", NONE, NONE, gate(Cell::And, 50)),
+        ("1", "AND Gate", ("size", "30"), NONE, gate(Cell::And, 30)),
+        ("1", "OR Gate", NONE, NONE, gate(Cell::Or, 50)),
+        ("1", "OR Gate", ("size", "70"), NONE, gate(Cell::Or, 70)),
+        ("1", "OR Gate", ("size", "050"), NONE, None),
+        ("1", "OR Gate", ("size", "50"), ("size", "50"), None),
+        ("1", "OR Gate", ("inputs", "3"), NONE, None),
+        ("1", "XOR Gate", NONE, NONE, None),
+        ("0", "NOT Gate", NONE, NONE, None),
+        ("2", "NOT Gate", NONE, NONE, None),
+        ("3", "NOT Gate", NONE, NONE, None),
+        ("", "NOT Gate", NONE, NONE, None),
+    ];
+    for (lib, name, first, second, want) in cases {
+        let found = role(
+            rt.alloc(),
+            comp(rt.alloc(), lib, name, 130, 60, &[first, second])?,
+        )?;
+        assert_eq!(rt; found, want, "{lib} {name} {first:?} {second:?}");
+    }
+    Ok(())
+}
+
+#[test]
+fn a_component_stands_within_a_million(rt: HostRuntime) -> Result<(), Fail> {
+    let cases = [
+        (1_000_000, -1_000_000, INPUT),
+        (1_000_001, 0, None),
+        (0, -1_000_001, None),
+        (i32::MIN, 0, None),
+    ];
+    for (x, y, want) in cases {
+        assert_eq!(rt;
+            role(rt.alloc(), comp(rt.alloc(), "0", "Pin", x, y, &[])?)?,
+            want,
+            "at ({x},{y})"
+        );
+    }
+    Ok(())
+}
+
+fn not_sheet(alloc: Global) -> Result<Sheet, AllocError> {
+    let mut comps = Items::new(alloc);
+    comps.push(comp(alloc, "0", "Pin", 100, 60, &[("label", "A")])?)?;
+    comps.push(comp(alloc, "1", "NOT Gate", 130, 60, &[])?)?;
+    comps.push(comp(
+        alloc,
+        "0",
+        "Pin",
+        130,
+        60,
+        &[("output", "true"), ("label", "Y")],
+    )?)?;
+    Ok(Sheet {
+        name: Text::copy_of(alloc, "main")?,
+        comps,
+        wires: Items::new(alloc),
+    })
+}
+
+// The netlist of a sheet of things that are built, with no wires.
+fn flat(rt: &impl Abort, alloc: Global, sheet: &Sheet) -> Result<Netlist, AllocError> {
+    let libs = libs(alloc)?;
+    assert!(rt; sheet.comps.len() < 1000);
+    assert!(rt; sheet.wires.is_empty());
+    let found = roles(alloc, libs.as_slice(), sheet.comps.as_slice())?.expect(rt, "roles");
+    netlist(alloc, sheet, found.as_slice())
+}
+
+#[test]
+fn one_not_gate_between_pins(rt: HostRuntime) -> Result<(), Fail> {
+    let made = flat(&rt, rt.alloc(), &not_sheet(rt.alloc())?)?;
+    assert_eq!(rt; made.circuit.as_str(), "main");
+    assert_eq!(rt; made.nets, 2);
+    assert!(rt; made.clocks.is_empty());
+    assert_eq!(rt; made.clock_pin, None);
+    assert_eq!(rt; made.parts.len(), 1);
+    for part in made.parts.as_slice() {
+        assert_eq!(rt; part.name.as_str(), "main(130,60) NOT Gate");
+        assert_eq!(rt; part.cell, Cell::Not);
+        assert_eq!(rt;
+            nets_of(rt.alloc(), &part.inputs)?.as_slice(),
+            [0].as_slice()
+        );
+        assert_eq!(rt;
+            nets_of(rt.alloc(), &part.outputs)?.as_slice(),
+            [1].as_slice()
+        );
+    }
+    let want = [
+        ("A", "main(100,60) Pin", true, 0),
+        ("Y", "main(130,60) Pin", false, 1),
+    ];
+    assert_eq!(rt; made.pins.len(), want.len());
+    for (pin, (name, place, input, net)) in made.pins.as_slice().iter().zip(want) {
+        assert_eq!(rt; pin.name.as_str(), name);
+        assert_eq!(rt; pin.place.as_str(), place);
+        assert_eq!(rt; pin.input, input);
+        assert_eq!(rt; pin.bits.as_slice(), [net].as_slice());
+    }
+    Ok(())
+}
+
+// A gate at (150,60) with pins at two points to its left.
+fn gate_sheet(
+    alloc: Global,
+    name: &str,
+    size: &str,
+    x: i32,
+    upper: i32,
+    lower: i32,
+) -> Result<Sheet, AllocError> {
+    let mut comps = Items::new(alloc);
+    comps.push(comp(alloc, "0", "Pin", x, upper, &[])?)?;
+    comps.push(comp(alloc, "0", "Pin", x, lower, &[])?)?;
+    comps.push(comp(alloc, "1", name, 150, 60, &[("size", size)])?)?;
+    Ok(Sheet {
+        name: Text::copy_of(alloc, "main")?,
+        comps,
+        wires: Items::new(alloc),
+    })
+}
+
+#[test]
+fn the_inputs_of_a_gate_lie_where_it_is_drawn(rt: HostRuntime) -> Result<(), Fail> {
+    let cases = [
+        ("AND Gate", "30", 120, 50, 70),
+        ("AND Gate", "50", 100, 40, 80),
+        ("OR Gate", "70", 80, 40, 80),
+    ];
+    for (name, size, x, upper, lower) in cases {
+        let sheet = gate_sheet(rt.alloc(), name, size, x, upper, lower)?;
+        let made = flat(&rt, rt.alloc(), &sheet)?;
+        assert_eq!(rt; made.nets, 3, "{name} of size {size}");
+        for part in made.parts.as_slice() {
+            assert_eq!(rt;
+                nets_of(rt.alloc(), &part.inputs)?.as_slice(),
+                [0, 1].as_slice()
+            );
+            assert_eq!(rt;
+                nets_of(rt.alloc(), &part.outputs)?.as_slice(),
+                [2].as_slice()
+            );
+        }
+    }
+    Ok(())
+}
+
+// The nets of ports of one bit, in order.
+fn nets_of(alloc: Global, ports: &Items<Items<u32>>) -> Result<Vec<u32>, AllocError> {
+    let mut nets = Vec::new(alloc);
+    for port in ports.as_slice() {
+        nets.extend_from_slice(port.as_slice())?;
+    }
+    Ok(nets)
+}
