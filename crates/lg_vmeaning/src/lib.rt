@@ -1,0 +1,2 @@
+//! The meaning of modules: valuations that solve their equations.
+#![tactic(auto)]
