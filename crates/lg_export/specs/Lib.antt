@@ -1,0 +1,4 @@
+pub mod Layout
+pub mod OneGate
+pub mod Readable
+pub mod Agreement

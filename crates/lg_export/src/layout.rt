@@ -1,0 +1,99 @@
+//! The module of a netlist, as a whole.
+
+ghost use Rattle.std.specs.Prelude.{◌≡◌, All, IfOk};
+ghost use Rattle.std.specs.List.{flat_map};
+ghost use Rattle.lg_netlist.specs.Static.{data_pins};
+ghost use Rattle.lg_export.specs.Layout.{numbered, part_decls, module_ports, module_assigns, module_of};
+ghost use Rattle.lg_export.specs.OneGate.{IsNotBetweenPins};
+ghost use Rattle.lg_export.specs.Readable.{IsNamed, CanBeLaidOut};
+ghost use Rattle.lg_export.specs.Agreement.{Agrees};
+
+use crate::drivers::{bits_value, drivers};
+use crate::fault::NotAccepted;
+use crate::names::{input_name, module_name, output_name};
+use crate::parts::{put_assigns, put_decls};
+use crate::pins::{input_pins, output_pins};
+use lg_netlist::{Netlist, PartUse};
+use lg_verilog::{Assign, Decl, Direction, Module, Port};
+use sqlite_items::Items;
+use std::alloc::{AllocError, Global};
+
+/// The module of a netlist: a port `i_NAME` or `o_NAME` for each pin, a wire `xP_I` at each attached input I and `wP_O`
+/// at each output O of part P, and an equation for each of these wires and for each output port.
+pub fn export(alloc: Global, netlist: &Netlist) -> Result<Module, NotAccepted>
+    // So far: one NOT gate between two pins.
+    requires { IsNotBetweenPins netlist.now }
+    // Each part has its own wires and equations.
+    ensures layout { IfOk result (λ m. m ≡ module_of netlist.now) }
+    // On each row of defined inputs the module has exactly one solution, and its outputs are the static values.
+    ensures agrees { IfOk result (λ m. Agrees netlist.now m) }
+{
+    Ok(laid_out(alloc, netlist)?)
+}
+
+fn laid_out(alloc: Global, netlist: &Netlist) -> Result<Module, AllocError>
+    requires { CanBeLaidOut netlist.now }
+    ensures { IfOk result (λ m. m ≡ module_of netlist.now) }
+{
+    Ok(Module {
+        name: module_name(alloc, netlist.circuit.as_str())?,
+        ports: ports(alloc, netlist)?,
+        decls: decls(alloc, netlist.parts.as_slice())?,
+        assigns: assigns(alloc, netlist)?,
+    })
+}
+
+// The input pins, then the output pins.
+fn ports(alloc: Global, netlist: &Netlist) -> Result<Items<Port>, AllocError>
+    requires { All IsNamed (data_pins netlist.now) }
+    ensures { IfOk result (λ ports. ports ≡ module_ports netlist.now) }
+{
+    let mut ports = Items::new(alloc);
+    let inputs = input_pins(alloc, netlist)?;
+    for pin in &inputs {
+        let name = input_name(alloc, pin)?;
+        ports.push(Port {
+            direction: Direction::Input,
+            width: 1,
+            name,
+        })?;
+    }
+    let outputs = output_pins(alloc, netlist)?;
+    for pin in &outputs {
+        let name = output_name(alloc, pin)?;
+        ports.push(Port {
+            direction: Direction::Output,
+            width: 1,
+            name,
+        })?;
+    }
+    Ok(ports)
+}
+
+fn decls(alloc: Global, parts: &[PartUse]) -> Result<Items<Decl>, AllocError>
+    ensures { IfOk result (λ decls. decls ≡ flat_map part_decls (numbered parts.now)) }
+{
+    let mut decls = Items::new(alloc);
+    for (part, used) in parts.iter().enumerate() {
+        put_decls(alloc, &mut decls, part, used)?;
+    }
+    Ok(decls)
+}
+
+fn assigns(alloc: Global, netlist: &Netlist) -> Result<Items<Assign>, AllocError>
+    requires { CanBeLaidOut netlist.now }
+    ensures { IfOk result (λ assigns. assigns ≡ module_assigns netlist.now) }
+{
+    let drivers = drivers(alloc, netlist)?;
+    let mut assigns = Items::new(alloc);
+    for (part, used) in netlist.parts.as_slice().iter().enumerate() {
+        put_assigns(alloc, &mut assigns, drivers.as_slice(), part, used)?;
+    }
+    let outputs = output_pins(alloc, netlist)?;
+    for pin in &outputs {
+        let name = output_name(alloc, pin)?;
+        let value = bits_value(alloc, drivers.as_slice(), pin.bits.as_slice())?;
+        assigns.push(Assign { name, value })?;
+    }
+    Ok(assigns)
+}

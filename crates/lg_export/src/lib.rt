@@ -1,0 +1,15 @@
+//! The module of a netlist: each part has its own wires and its own equations.
+#![tactic(auto)]
+
+mod drivers;
+mod fault;
+mod layout;
+mod names;
+mod parts;
+mod pins;
+
+pub use fault::NotAccepted;
+pub use layout::export;
+
+#[cfg(test)]
+mod tests;

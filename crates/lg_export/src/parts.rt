@@ -1,0 +1,101 @@
+//! The wires and the equations of a part.
+
+ghost use Rattle.std.specs.Prelude.{◌≡◌, ◌<◌, ◌++◌, length, map, IfOk, OnOk};
+ghost use Rattle.lg_verilog.specs.declared.module.Expr.TheVariants.{Whole};
+ghost use Rattle.lg_export.specs.Layout.{input_wire, attached, part_decls, part_assigns, first_of, joined, equation};
+ghost use Rattle.lg_export.specs.Readable.{IsFed};
+
+use crate::drivers::{Driver, bits_value};
+use crate::names::{input_wire, output_wire};
+use lg_netlist::{Cell, PartUse};
+use lg_verilog::{Assign, Decl, Expr, Operator};
+use sqlite_items::{Boxed, Items};
+use std::alloc::{AllocError, Global};
+
+// A wire for each attached input, and one for each output.
+pub fn put_decls(
+    alloc: Global,
+    decls: &mut Items<Decl>,
+    part: usize,
+    used: &PartUse,
+) -> Result<(), AllocError>
+    ensures { OnOk result (decls.new ≡ decls.old ++ part_decls (part, used.now)) }
+{
+    for (input, bits) in used.inputs.as_slice().iter().enumerate() {
+        if !bits.is_empty() {
+            let name = input_wire(alloc, part, input)?;
+            decls.push(Decl::Wire { width: 1, name })?;
+        }
+    }
+    for output in 0..used.outputs.len() {
+        let name = output_wire(alloc, part, output)?;
+        decls.push(Decl::Wire { width: 1, name })?;
+    }
+    Ok(())
+}
+
+// An equation for each attached input, and the gate's.
+pub fn put_assigns(
+    alloc: Global,
+    assigns: &mut Items<Assign>,
+    drivers: &[Driver],
+    part: usize,
+    used: &PartUse,
+) -> Result<(), AllocError>
+    requires { IsFed drivers.now used.now }
+    ensures { OnOk result (assigns.new ≡ assigns.old ++ part_assigns drivers.now (part, used.now)) }
+{
+    for (input, bits) in used.inputs.as_slice().iter().enumerate() {
+        if !bits.is_empty() {
+            let name = input_wire(alloc, part, input)?;
+            let value = bits_value(alloc, drivers, bits.as_slice())?;
+            assigns.push(Assign { name, value })?;
+        }
+    }
+    let name = output_wire(alloc, part, 0)?;
+    let value = equation(alloc, used.cell, input_wires(alloc, part, used)?)?;
+    assigns.push(Assign { name, value })
+}
+
+fn input_wires(alloc: Global, part: usize, used: &PartUse) -> Result<Vec<Expr>, AllocError>
+    ensures { IfOk result (λ wires. wires.items ≡ map (λ i. Whole (input_wire part i.0)) (attached used.now)) }
+{
+    let mut wires = Vec::new(alloc);
+    for (input, bits) in used.inputs.as_slice().iter().enumerate() {
+        if !bits.is_empty() {
+            wires.push(Expr::Whole(input_wire(alloc, part, input)?))?;
+        }
+    }
+    Ok(wires)
+}
+
+// What a gate says of its attached inputs.
+fn equation(alloc: Global, cell: Cell, inputs: Vec<Expr>) -> Result<Expr, AllocError>
+    requires { 0 < length inputs.items }
+    ensures { IfOk result (λ value. value ≡ equation cell inputs.items) }
+{
+    match cell {
+        Cell::Not => Ok(Expr::Not(Boxed::new(alloc, first_of(inputs))?)),
+        Cell::And => joined(alloc, Operator::And, inputs),
+        Cell::Or => joined(alloc, Operator::Or, inputs),
+    }
+}
+
+fn first_of(mut inputs: Vec<Expr>) -> Expr
+    requires { 0 < length inputs.items }
+    ensures { result ≡ first_of inputs.items }
+{
+    inputs.swap_remove(0)
+}
+
+fn joined(alloc: Global, operator: Operator, mut inputs: Vec<Expr>) -> Result<Expr, AllocError>
+    requires { 0 < length inputs.items }
+    ensures { IfOk result (λ value. value ≡ joined operator inputs.items) }
+{
+    let mut value = inputs.remove(0);
+    for input in inputs {
+        let left = Boxed::new(alloc, value)?;
+        value = Expr::Binary(left, operator, Boxed::new(alloc, input)?);
+    }
+    Ok(value)
+}
