@@ -1,0 +1,34 @@
+-- The text is that of the project's module, or there is none.
+use Rattle.std.proofs.Common.{◌≡◌, ℕ, List, sym, ap, subst, ◌∙◌, refl}
+use Rattle.lg_circ.specs.declared.project.Project.{Project}
+use Rattle.lg_export.specs.Agreement.{Agrees}
+use Rattle.lg_verilog.specs.declared.module.Module.{Module}
+use Rattle.lg_verilog.specs.Printed.{module_text}
+use Rattle.lg.specs.OneSheet.{HasOneNot}
+use Rattle.lg.proofs.export.module_text.Goals as goal
+
+pub returns-in-Err-NotBuilt : goal.returns-in-Err-NotBuilt
+returns-in-Err-NotBuilt c =
+    let none = c.in-Err-NotBuilt.ensures.not_built (cc) in
+    (none.0, λ text t. none.1 t.project t.says)
+
+pub returns-in-Err-NotBuilt-one_sheet : goal.returns-in-Err-NotBuilt-one_sheet
+returns-in-Err-NotBuilt-one_sheet c = (
+  c.in-Ok.ensures.within,
+  λ text t.
+      let same : c.in-Ok.project ≡ t.project = c.in-Ok.ensures.only t.project t.says c.in-Ok.ensures.within in
+      c.in-Err-NotBuilt-one_sheet.ensures.not_built (cc) t.built.sheet t.built.roles (subst (λ (p : Project). HasOneNot p t.built.sheet t.built.roles) (sym same) t.built.circuit),
+)
+
+pub returns-in-Ok-print : goal.returns-in-Ok-print
+returns-in-Ok-print c = (
+  c.in-Ok.ensures.within,
+  record {
+    project = c.in-Ok.project;
+    netlist = c.in-Ok-one_sheet.netlist;
+    says = c.in-Ok.ensures.found;
+    built = c.in-Ok-one_sheet.ensures.found;
+    printed = c.in-Ok-print.ensures ∙ ap module_text c.in-Ok-export.ensures.layout;
+    agrees = subst (λ (m : Module). Agrees c.in-Ok-one_sheet.netlist m) c.in-Ok-export.ensures.layout c.in-Ok-export.ensures.agrees;
+  },
+)

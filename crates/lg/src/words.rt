@@ -1,0 +1,28 @@
+//! The words of the command line, read by their short definition.
+
+ghost use Rattle.std.specs.Prelude.{◌≡◌, map, string_bytes};
+ghost use Rattle.lg.specs.Words.{command_of, is_positional, asks_export};
+
+/// The project file whose module the words ask for, or none where they are no command: `export`, and one further word
+/// that is not empty and does not begin with `-`.
+pub fn project_to_export(words: &[String]) -> Option<&str>
+    ensures { asks_export result ≡ command_of (map string_bytes words.now) }
+{
+    let [verb, project] = words else {
+        return None;
+    };
+    if verb.as_str() == "export" && is_positional(project.as_str()) {
+        Some(project.as_str())
+    } else {
+        None
+    }
+}
+
+fn is_positional(word: &str) -> bool
+    ensures { result ≡ is_positional word.now }
+{
+    match word.as_bytes() {
+        [] => false,
+        [first, ..] => *first != b'-',
+    }
+}
