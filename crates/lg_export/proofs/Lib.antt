@@ -1,3 +1,5 @@
 pub mod LayoutLemmas
 pub mod NameLemmas
-pub mod NotGate
+pub mod Forms
+pub mod WireNames
+pub mod Simple

@@ -1,4 +1,3 @@
 pub mod Layout
-pub mod OneGate
 pub mod Readable
 pub mod Agreement

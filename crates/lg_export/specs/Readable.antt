@@ -6,7 +6,7 @@ use Rattle.lg_netlist.specs.declared.netlist.PinUse.{PinUse}
 use Rattle.lg_netlist.specs.declared.netlist.Netlist.{Netlist}
 use Rattle.lg_netlist.specs.Static.{data_pins, output_pins}
 use Rattle.lg_export.specs.Layout.{drivers, attached}
-use Rattle.lg_export.specs.OneGate.{is_pin_name}
+use Rattle.lg_netlist.specs.Valid.{is_pin_name}
 
 -- a module can spell the pin's name
 abbrev pub IsNamed : PinUse → Type 0

@@ -1,10 +1,11 @@
 //! The module of a netlist, as a whole.
 
-ghost use Rattle.std.specs.Prelude.{◌≡◌, All, IfOk};
+ghost use Rattle.std.specs.Prelude.{◌≡◌, All, IfOk, IsTrue};
 ghost use Rattle.std.specs.List.{flat_map};
 ghost use Rattle.lg_netlist.specs.Static.{data_pins};
 ghost use Rattle.lg_export.specs.Layout.{numbered, part_decls, module_ports, module_assigns, module_of};
-ghost use Rattle.lg_export.specs.OneGate.{IsNotBetweenPins};
+ghost use Rattle.lg_netlist.specs.Valid.{IsValid};
+ghost use Rattle.lg_netlist.specs.OneGate.{is_one_gate};
 ghost use Rattle.lg_export.specs.Readable.{IsNamed, CanBeLaidOut};
 ghost use Rattle.lg_export.specs.Agreement.{Agrees};
 
@@ -21,8 +22,9 @@ use std::alloc::{AllocError, Global};
 /// The module of a netlist: a port `i_NAME` or `o_NAME` for each pin, a wire `xP_I` at each attached input I and `wP_O`
 /// at each output O of part P, and an equation for each of these wires and for each output port.
 pub fn export(alloc: Global, netlist: &Netlist) -> Result<Module, NotAccepted>
-    // So far: one NOT gate between two pins.
-    requires { IsNotBetweenPins netlist.now }
+    requires valid { IsValid netlist.now }
+    // So far: each gate reads input pins alone.
+    requires one_gate { IsTrue (is_one_gate netlist.now) }
     // Each part has its own wires and equations.
     ensures layout { IfOk result (λ m. m ≡ module_of netlist.now) }
     // On each row of defined inputs the module has exactly one solution, and its outputs are the static values.
