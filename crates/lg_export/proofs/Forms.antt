@@ -95,7 +95,7 @@ IsBit-cases zero h = inl refl
 IsBit-cases (suc zero) h = inr refl
 IsBit-cases (suc (suc k)) h = absurd (omega (arith, h))
 
-operator_small : (op : Operator) (a b : ℕ) → a < 2 → b < 2 → operator_value op a b < 2
+pub operator_small : (op : Operator) (a b : ℕ) → a < 2 → b < 2 → operator_value op a b < 2
 operator_small op a b ha hb = by op (IsBit-cases a ha) (IsBit-cases b hb)
   where
     at : (op : Operator) (c d : ℕ) → a ≡ c → b ≡ d → operator_value op c d < 2 → operator_value op a b < 2

@@ -6,3 +6,4 @@ pub mod Simple
 pub mod Driving
 pub mod Ordered
 pub mod Declared
+pub mod Gates

@@ -78,7 +78,7 @@ one_solution m known (a ∷ more) v w order agree sv sw name given =
     agree_more known new v w agree same name (inr here) = agree name here
 
 -- all that is given has one bit
-one_bit : (m : Module) (known : List (List ℕ)) (assigns : List Assign) (v : Valuation) → AreInOrder m known assigns → ((name : List ℕ) → IsIn known name → v name < 2)
+pub one_bit : (m : Module) (known : List (List ℕ)) (assigns : List Assign) (v : Valuation) → AreInOrder m known assigns → ((name : List ℕ) → IsIn known name → v name < 2)
     → AllByRecursion (λ (a : Assign). v a.name ≡ value_of m v a.value) assigns → (name : List ℕ) → IsGiven known assigns name → v name < 2
 one_bit m known [] v order small sv name (inl here) = small name here
 one_bit m known [] v order small sv name (inr there) = absurd there
@@ -100,7 +100,7 @@ abbrev pub given_by : List (List ℕ) → List ℕ → Valuation
 given_by (name ∷ names) (number ∷ numbers) = changed (given_by names numbers) name number
 given_by _ _ = λ name. 0
 
-map_agree : (names : List (List ℕ)) (v w : Valuation) → AgreeAt names v w → map v names ≡ map w names
+pub map_agree : (names : List (List ℕ)) (v w : Valuation) → AgreeAt names v w → map v names ≡ map w names
 map_agree [] v w agree = refl
 map_agree (name ∷ names) v w agree = two (v name) (w name) (map v names) (map w names) (agree name (inl refl)) (map_agree names v w (λ other here. agree other (inr here)))
   where
@@ -124,7 +124,7 @@ given_by-all (name ∷ names) (number ∷ numbers) differ e =
 abbrev pub AreBits : List ℕ → Type 0
 AreBits numbers = AllByRecursion (λ number. number < 2) numbers
 
-at_names : (names : List (List ℕ)) (v : Valuation) (numbers : List ℕ) → map v names ≡ numbers → AreBits numbers → (name : List ℕ) → IsIn names name → v name < 2
+pub at_names : (names : List (List ℕ)) (v : Valuation) (numbers : List ℕ) → map v names ≡ numbers → AreBits numbers → (name : List ℕ) → IsIn names name → v name < 2
 at_names names v numbers e bits = from_map names v (subst AreBits (sym e) bits)
   where
     from_map : (names : List (List ℕ)) (v : Valuation) → AreBits (map v names) → (name : List ℕ) → IsIn names name → v name < 2
