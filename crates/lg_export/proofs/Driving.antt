@@ -115,7 +115,7 @@ pub record IsPinDriven (names : List (List ℕ)) (entries : List Entry) (net : �
   pub entry : IsEntry entries net name
   pub among : IsIn names name
 
-split_net : (xs ys : List ℕ) (net : ℕ) → IsNetIn (xs ++ ys) net → IsNetIn xs net ⊎ IsNetIn ys net
+pub split_net : (xs ys : List ℕ) (net : ℕ) → IsNetIn (xs ++ ys) net → IsNetIn xs net ⊎ IsNetIn ys net
 split_net [] ys net h = inr h
 split_net (x ∷ xs) ys net (inl e) = inl (inl e)
 split_net (x ∷ xs) ys net (inr h) = later x xs ys net (split_net xs ys net h)

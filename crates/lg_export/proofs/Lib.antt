@@ -7,3 +7,4 @@ pub mod Driving
 pub mod Ordered
 pub mod Declared
 pub mod Gates
+pub mod Agreeing
