@@ -8,3 +8,5 @@ pub mod Ordered
 pub mod Declared
 pub mod Gates
 pub mod Agreeing
+pub mod PlaceLemmas
+pub mod LaidOut

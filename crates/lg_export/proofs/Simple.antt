@@ -222,6 +222,7 @@ pub record IsPlain (n : Netlist) : Type 0 where
   pub outputs_differ : NamesDiffer (output_pins n)
   pub drivers_differ : all_differ (driven n) ≡ true
   pub input_pins_are : input_pins n ≡ filter (λ (p : PinUse). p.input) n.pins
+  pub data_pins_are : data_pins n ≡ n.pins
 
 data_pins_all : (n : Netlist) → n.clock_pin ≡ None → data_pins n ≡ n.pins
 data_pins_all n e = rw e (all_kept 0 n.pins)
@@ -253,4 +254,5 @@ IsPlain-from n valid one =
       outputs_differ = subst NamesDiffer (sym outputs) (NamesDiffer-filter (λ (p : PinUse). not p.input) n.pins names);
       drivers_differ = third.1;
       input_pins_are = inputs;
+      data_pins_are = pins;
     }

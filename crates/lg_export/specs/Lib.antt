@@ -1,3 +1,4 @@
 pub mod Layout
 pub mod Readable
+pub mod Places
 pub mod Agreement

@@ -26,8 +26,9 @@ pub record IsFed (drivers : List (ℕ × List ℕ)) (part : PartUse) : Type 0 wh
   pub has_input : 0 < length (attached part)
   pub driven : All (λ bits. 0 < length bits → IsDriven drivers (slice_index bits 0)) part.inputs
 
--- each pin can be named, each part is fed, and each output pin can be read
+-- each pin can be named, drivers are on nets that exist, each part is fed, and each output pin can be read
 pub record CanBeLaidOut (n : Netlist) : Type 0 where
   pub named : All IsNamed (data_pins n)
+  pub within : All (λ (d : ℕ × List ℕ). d.0 < n.nets) (drivers n)
   pub fed : All (IsFed (drivers n)) n.parts
   pub read : All (λ pin. IsReadable (drivers n) pin.bits) (output_pins n)

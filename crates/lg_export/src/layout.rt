@@ -9,7 +9,7 @@ ghost use Rattle.lg_netlist.specs.OneGate.{is_one_gate};
 ghost use Rattle.lg_export.specs.Readable.{IsNamed, CanBeLaidOut};
 ghost use Rattle.lg_export.specs.Agreement.{Agrees};
 
-use crate::drivers::{bits_value, drivers};
+use crate::drivers::Drivers;
 use crate::fault::NotAccepted;
 use crate::names::{input_name, module_name, output_name};
 use crate::parts::{put_assigns, put_decls};
@@ -86,15 +86,15 @@ fn assigns(alloc: Global, netlist: &Netlist) -> Result<Items<Assign>, AllocError
     requires { CanBeLaidOut netlist.now }
     ensures { IfOk result (λ assigns. assigns ≡ module_assigns netlist.now) }
 {
-    let drivers = drivers(alloc, netlist)?;
+    let drivers = Drivers::of(alloc, netlist)?;
     let mut assigns = Items::new(alloc);
     for (part, used) in netlist.parts.as_slice().iter().enumerate() {
-        put_assigns(alloc, &mut assigns, drivers.as_slice(), part, used)?;
+        put_assigns(alloc, &mut assigns, &drivers, part, used)?;
     }
     let outputs = output_pins(alloc, netlist)?;
     for pin in &outputs {
         let name = output_name(alloc, pin)?;
-        let value = bits_value(alloc, drivers.as_slice(), pin.bits.as_slice())?;
+        let value = drivers.bits_value(alloc, pin.bits.as_slice())?;
         assigns.push(Assign { name, value })?;
     }
     Ok(assigns)

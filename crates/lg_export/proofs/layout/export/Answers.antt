@@ -1,8 +1,13 @@
--- A one-gate netlist.
-use Rattle.lg_export.proofs.Simple.{IsPlain-from}
-use Rattle.lg_export.proofs.Driving.{from_source}
-use Rattle.lg_export.proofs.Declared.{module_is_ordered}
+-- A one-gate netlist can be laid out, and its module agrees with it.
+use Rattle.std.proofs.Common.{sym, subst}
+use Rattle.lg_verilog.specs.declared.module.Module.{Module}
+use Rattle.lg_export.specs.Agreement.{Agrees}
 use Rattle.lg_export.proofs.Agreeing.{agrees}
-use Rattle.lg_export.proofs.Forms.{width-one}
-use Rattle.lg_export.proofs.WireNames.{apart}
+use Rattle.lg_export.proofs.LaidOut.{CanBeLaidOut-one_gate}
 use Rattle.lg_export.proofs.layout.export.Goals as goal
+
+pub laid_out-requires : goal.laid_out-requires
+laid_out-requires c = CanBeLaidOut-one_gate c.args.netlist.now c.requires.valid c.requires.one_gate
+
+pub returns-clause-agrees : goal.returns-clause-agrees
+returns-clause-agrees c = subst (λ (m : Module). Agrees c.args.netlist.now m) (sym c.in_ok-laid_out.ensures) (agrees c.args.netlist.now c.requires.valid c.requires.one_gate)
