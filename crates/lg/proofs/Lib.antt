@@ -1,4 +1,2 @@
 pub mod Written
-pub mod OneSheetLemmas
-pub mod OneNot
 pub mod Dues
