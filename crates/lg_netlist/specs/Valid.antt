@@ -1,5 +1,5 @@
 -- What every netlist keeps: names that a module can spell, nets that exist, and ports that fit their cells.
-use Rattle.std.specs.Prelude.{◌≡◌, ◌<◌, ◌≤◌, ℕ, nat_le, Bool, true, ◌&&◌, IsTrue, List, map, length, slice_get, Some, IfSome, All}
+use Rattle.std.specs.Prelude.{◌≡◌, ◌<◌, ◌≤◌, ◌^◌, ℕ, nat_le, Bool, true, ◌&&◌, IsTrue, List, map, length, slice_get, Some, IfSome, All}
 use Rattle.std.specs.List.{list_all, IsDistinct}
 use Rattle.std.specs.Str.{bytes_eq}
 use Rattle.lg_netlist.specs.declared.netlist.Cell.{Cell}
@@ -16,8 +16,8 @@ is_pin_name name = nat_le 1 (length name) && nat_le (length name) 290 && list_al
 -- how many inputs a cell takes
 abbrev pub TakesInputs : Cell → ℕ → Type 0
 TakesInputs Not count = count ≡ 1
-TakesInputs And count = 2 ≤ count
-TakesInputs Or count = 2 ≤ count
+TakesInputs And count = (2 ≤ count) × (count ≤ 64)
+TakesInputs Or count = (2 ≤ count) × (count ≤ 64)
 
 -- nets that are among so many
 abbrev pub AreNets : ℕ → List ℕ → Type 0
@@ -41,8 +41,9 @@ pub record IsFittingPin (nets : ℕ) (p : PinUse) : Type 0 where
   pub one_bit : length p.bits ≡ 1
   pub on_nets : AreNets nets p.bits
 
--- parts and pins fit, names of pins differ, and the clock pin is an input pin
+-- parts and pins fit and are counted in 32 bits, names of pins differ, and the clock pin is an input pin
 pub record IsValid (n : Netlist) : Type 0 where
+  pub few_parts : length n.parts < 2 ^ 32
   pub parts : All (IsFittingPart n.nets) n.parts
   pub pins : All (IsFittingPin n.nets) n.pins
   pub names_differ : IsDistinct bytes_eq (map (λ p. p.name) n.pins)
