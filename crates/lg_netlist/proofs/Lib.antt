@@ -1,2 +1,4 @@
 pub mod NumberingLemmas
 pub mod NameLemmas
+pub mod NextLemmas
+pub mod SpelledLemmas

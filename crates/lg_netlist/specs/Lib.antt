@@ -1,4 +1,5 @@
 pub mod Names
+pub mod NextNumbers
 pub mod Numbering
 pub mod Cell
 pub mod Valid
