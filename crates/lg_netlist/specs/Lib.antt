@@ -4,4 +4,5 @@ pub mod Numbering
 pub mod Cell
 pub mod Valid
 pub mod OneGate
+pub mod Marks
 pub mod Static
