@@ -8,7 +8,7 @@ use Rattle.lg_netlist.specs.declared.netlist.PartUse.{PartUse}
 use Rattle.lg_netlist.specs.declared.netlist.PinUse.{PinUse}
 use Rattle.lg_netlist.specs.declared.netlist.Netlist.{Netlist}
 use Rattle.lg_netlist.specs.Marks.{are_new, marked, is_on_marked}
-use Rattle.lg_netlist.specs.OneGate.{driven_by_parts, driven_by_pins, driven, all_differ, is_on, has_no_clock, has_single_drivers, gates_read_pins, outputs_are_driven, is_one_gate}
+use Rattle.lg_netlist.specs.OneGate.{driven_by_parts, driven_by_pins, driven, all_differ, has_no_clock, has_single_drivers, gates_read_pins, outputs_are_driven, is_one_gate}
 use Rattle.lg_netlist.specs.Valid.{AreNets, IsFittingPart, IsFittingPin, IsValid}
 use Rattle.lg_netlist.proofs.MarkLemmas.{AreMarked, AreMarked-start, are_new-differ, marked-met, length-marked, all_differ-end, parts_read, pins_on, parts_drive_nets, pins_drive_nets}
 

@@ -1,10 +1,9 @@
 -- Each test answers false for one part of what a one-gate circuit is, and the last one decides.
-use Rattle.std.proofs.Common.{◌≡◌, ℕ, Bool, true, false, ◌||◌, List, sym, ap, subst, ◌∙◌, rules}
+use Rattle.std.proofs.Common.{◌≡◌, Bool, true, false, List, sym, ap, subst, ◌∙◌, rules}
 use Rattle.std.specs.Prelude.{replicate}
 use Rattle.std.specs.List.{list_all}
 use Rattle.lg_netlist.specs.declared.netlist.PartUse.{PartUse}
-use Rattle.lg_netlist.specs.declared.netlist.PinUse.{PinUse}
-use Rattle.lg_netlist.specs.Marks.{marked, is_on_marked}
+use Rattle.lg_netlist.specs.Marks.{is_on_marked}
 use Rattle.lg_netlist.specs.OneGate.{driven_by_parts, driven_by_pins, has_no_clock}
 use Rattle.lg_netlist.proofs.OneGateLemmas.{IsStart, ArePinsMarked, AreDriversMarked, within_start, joined_pins, ArePinsMarked-after, fitting_parts, unread, within_parts, joined_parts, AreDriversMarked-after, fitting_pins, by_outputs}
 use Rattle.lg_netlist.proofs.netlist.Netlist.is_one_gate.Goals as goal
