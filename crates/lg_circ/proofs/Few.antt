@@ -1,5 +1,5 @@
 -- How many components and wires a text can have: no more than it has bytes.
-use Rattle.std.proofs.Common.{◌≡◌, ℕ, zero, suc, ◌+◌, ◌≤◌, Bool, true, false, cond, List, [], ◌∷◌, ◌++◌, length, Option, Some, None, Result, Ok, Err, refl, sym, ap, subst, ◌∙◌, arith, ◌⊎◌, inl, inr}
+use Rattle.std.proofs.Common.{◌≡◌, ℕ, zero, suc, ◌+◌, ◌≤◌, Bool, true, false, cond, List, [], ◌∷◌, length, Option, Some, Result, Ok, Err, refl, sym, ap, subst, ◌∙◌, arith, inl, inr}
 use Rattle.std.specs.Prelude.{codes, filter, IfOk}
 use Rattle.std.specs.List.{All}
 use Rattle.std.specs.Str.{bytes_eq}
@@ -15,7 +15,7 @@ use Rattle.lg_circ.specs.declared.project.Sheet.{Sheet}
 use Rattle.lg_circ.specs.declared.project.Project.{Project}
 use Rattle.lg_circ.specs.Tree.{name_of, children_of, is_named, children_named, child_named, value_under, attribute}
 use Rattle.lg_circ.specs.Grammar.{SpellsContent, SpellsElement, greatest_level}
-use Rattle.lg_circ.specs.Meaning.{◌>>=◌, each, lib_of, comp_of, wire_of, sheet_of, options_of, is_error, limit_of, project_of}
+use Rattle.lg_circ.specs.Meaning.{◌>>=◌, each, lib_of, comp_of, wire_of, sheet_of, options_of, is_error, limit_of}
 use Rattle.lg_circ.specs.Plain.{IsPlainProject}
 use Rattle.lg_circ.proofs.Marks.{bind_some}
 use Rattle.lg_circ.proofs.Elements.{same_bytes}
