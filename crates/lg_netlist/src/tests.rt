@@ -43,7 +43,7 @@ fn taken_names_get_numbers(rt: HostRuntime) -> Result<(), Fail> {
 
 #[test]
 fn classes_are_numbered_by_first_appearance(rt: HostRuntime) -> Result<(), Fail> {
-    let (numbers, count) = numbered(rt.alloc(), &[3, 3, 0, 3, 5, 0])?;
+    let (numbers, count) = numbered(rt.alloc(), &[3, 3, 0, 3, 9, 0], 10)?;
     assert_eq!(rt; numbers.as_slice(), [0, 0, 1, 0, 2, 1].as_slice());
     assert_eq!(rt; count, 3);
     Ok(())
