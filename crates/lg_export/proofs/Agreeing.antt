@@ -1,12 +1,10 @@
 -- The static values are the bits of the module's one solution.
-use Rattle.std.proofs.Common.{◌≡◌, ℕ, zero, suc, ◌+◌, ◌^◌, ◌<◌, ◌≤◌, Bool, true, false, List, [], ◌∷◌, ◌++◌, length, map, Option, Some, None, refl, sym, ap, subst, ◌∙◌, arith, inl, inr, ◌⊎◌}
+use Rattle.std.proofs.Common.{◌≡◌, ℕ, suc, ◌+◌, ◌<◌, true, List, [], ◌∷◌, ◌++◌, length, map, Option, Some, refl, sym, ap, subst, ◌∙◌, arith, inl, inr, ◌⊎◌}
 use Rattle.std.specs.List.{AllByRecursion, flat_map, enumerate_from}
 use Rattle.std.proofs.lemmas.List.{map-append}
 use Rattle.std.proofs.lemmas.List.Elements.{All-cons, All-nil, All-head}
 use Rattle.lg_value.specs.declared.bit.Bit.{Bit}
-use Rattle.lg_value.specs.declared.bit.Bit.TheVariants.{Zero, One, Unknown, Error}
 use Rattle.lg_value.specs.Word.{IsDefined, number_of}
-use Rattle.lg_netlist.specs.declared.netlist.Cell.{Cell}
 use Rattle.lg_netlist.specs.declared.netlist.PartUse.{PartUse}
 use Rattle.lg_netlist.specs.declared.netlist.PinUse.{PinUse}
 use Rattle.lg_netlist.specs.declared.netlist.Netlist.{Netlist}
@@ -14,20 +12,18 @@ use Rattle.lg_netlist.specs.Valid.{IsValid}
 use Rattle.lg_netlist.specs.OneGate.{driven_by_parts, driven_by_pins, driven, is_one_gate}
 use Rattle.lg_netlist.specs.Cell.{gate_word}
 use Rattle.lg_netlist.specs.Static.{input_pins, output_pins, word_on, word_at, Carries, PartCarries, AreStaticValues, IsDefinedRow, output_words}
-use Rattle.lg_verilog.specs.declared.module.Expr.{Expr}
-use Rattle.lg_verilog.specs.declared.module.Expr.TheVariants as expr
 use Rattle.lg_verilog.specs.declared.module.Assign.{Assign}
 use Rattle.lg_verilog.specs.declared.module.Module.{Module}
-use Rattle.lg_vmeaning.specs.Meaning.{Valuation, value_of, width_of, input_names, output_names, IsSolution, HasOutputs}
+use Rattle.lg_vmeaning.specs.Meaning.{Valuation, value_of, width_of, input_names}
 use Rattle.lg_vmeaning.specs.InOrder.{IsIn}
-use Rattle.lg_vmeaning.proofs.InOrderLemmas.{AreBits, IsGiven, HasOutputs-ordered, one_bit, at_names, assigned}
-use Rattle.lg_export.specs.Layout.{numbered, input_name, output_name, input_wire, output_wire, output_drivers, part_drivers, drivers, driver_name, bits_value, part_assigns, module_of, module_assigns}
-use Rattle.lg_export.specs.Agreement.{HasStaticOutputs, AgreesOnRow, Agrees}
+use Rattle.lg_vmeaning.proofs.InOrderLemmas.{AreBits, HasOutputs-ordered, one_bit, at_names, assigned}
+use Rattle.lg_export.specs.Layout.{numbered, input_name, output_name, input_wire, output_wire, output_drivers, part_drivers, drivers, driver_name, bits_value, part_assigns, module_of}
+use Rattle.lg_export.specs.Agreement.{AgreesOnRow, Agrees}
 use Rattle.lg_export.proofs.Forms.{value_of-Whole, value_of-equation, gate_number}
 use Rattle.lg_export.proofs.Simple.{IsNetIn, single, IsSimple, IsPinOn, IsLoose, IsPlain, IsPlain-from}
 use Rattle.lg_export.proofs.Driving.{Entry, IsEntry, IsEntry-left, IsEntry-right, pins_drive, names_in, found, from_pin, split_net}
 use Rattle.lg_export.proofs.Ordered.{x_names, x_assigns, w_assign, o_assign, part_assigns-is}
-use Rattle.lg_export.proofs.Declared.{input_names-is, output_names-is, wires_narrow, module_is_ordered, IsIn-left, IsIn-right}
+use Rattle.lg_export.proofs.Declared.{input_names-is, output_names-is, wires_narrow, module_is_ordered, IsIn-right}
 use Rattle.lg_export.proofs.Gates.{bit_of_digit, IsDefinedBit, bit_is_defined, number_of-bit, bit-number_of, number_of-small, bits_of, AreSmall, gate_bit, gate_bit-number, gate_word-bit}
 
 -- each equation holds
@@ -82,6 +78,7 @@ carried n plain m v on k p s says entries =
   where
     first_entry : (out : List ℕ) (net : ℕ) → out ≡ single net → IsEntry (output_drivers k 0 (out ∷ [])) net (output_wire k 0)
     first_entry out net e = subst (λ (o : List ℕ). IsEntry (output_drivers k 0 (o ∷ [])) net (output_wire k 0)) (sym e) (inl (refl, refl))
+
     by : (out : List ℕ) → IsLoose out → ((net : ℕ) → out ≡ single net → IsEntry (drivers n) net (output_wire k 0)) → Carries (bit_on n v) out (gate_word p.cell (length out) (map (word_at (bit_on n v)) p.inputs))
     by out (inl e) entry = inl e
     by out (inr w) entry =
@@ -96,8 +93,7 @@ parts_carry : (n : Netlist) → IsPlain n → (m : Module) (v : Valuation) (on :
     → Hold m v (flat_map (part_assigns (drivers n)) (enumerate_from k parts)) → AreEntries (part_drivers k parts) (drivers n) → AllByRecursion (PartCarries (bit_on n v)) parts
 parts_carry n plain m v on k last [] e simple small narrow h entries = tt
 parts_carry n plain m v on k last (p ∷ parts) e simple small narrow h entries =
-    let sides = split_hold m v (part_assigns (drivers n) (k, p)) (flat_map (part_assigns (drivers n)) (enumerate_from (k + 1) parts)) h in
-    (
+    let sides = split_hold m v (part_assigns (drivers n) (k, p)) (flat_map (part_assigns (drivers n)) (enumerate_from (k + 1) parts)) h in (
       carried n plain m v on k p simple.0 (gate_output n m v on k p simple.0 small (narrow k (omega (arith, e))) sides.0)
           (λ net name here. entries net name (IsEntry-left (output_drivers k 0 p.outputs) (part_drivers (k + 1) parts) net name here)),
       parts_carry n plain m v on (k + 1) last parts (omega (arith, e)) simple.1 small narrow sides.1
@@ -139,7 +135,7 @@ inputs_say n plain v on (p ∷ more) (word ∷ row) pins defined e entries =
     cons_words (word_on (bit_on n v) p.bits) word (pins_say more (bit_on n v)) row
     (ap (word_on (bit_on n v)) pins.0.bits ∙ (ap (λ (b : Bit). b ∷ []) bit ∙ sym w.1))
     (inputs_say n plain v on more row pins.1 defined.2 (tails (v (input_name p)) (number_of word) (map v (names_in more)) (map number_of row) e)
-        (λ k d h. entries k d (IsEntry-right (map (λ j. (j, input_name p)) p.bits) (pins_drive more) k d h)))
+    (λ k d h. entries k d (IsEntry-right (map (λ j. (j, input_name p)) p.bits) (pins_drive more) k d h)))
 
 -- the row's numbers have one bit, and are as many as the pins
 row_bits : (on : List ℕ) (pins : List PinUse) (row : List (List Bit)) → AllByRecursion (IsPinOn on) pins → IsDefinedRow pins row → AreBits (map number_of row) × (length (names_in pins) ≡ length (map number_of row))
@@ -183,17 +179,22 @@ same_words value other on (p ∷ more) pins e net h =
   where
     word_tails : (a b : List Bit) (xs ys : List (List Bit)) → a ∷ xs ≡ b ∷ ys → xs ≡ ys
     word_tails a b xs ys e = cc
+
     word_heads : (a b : List Bit) (xs ys : List (List Bit)) → a ∷ xs ≡ b ∷ ys → a ≡ b
     word_heads a b xs ys e = cc
+
     bit_heads : (a b : Bit) → a ∷ [] ≡ b ∷ [] → a ≡ b
     bit_heads a b e = cc
+
     here : value pins.0.net ≡ other pins.0.net
     here =
         bit_heads (value pins.0.net) (other pins.0.net)
         (sym (ap (word_on value) pins.0.bits) ∙ (word_heads (word_on value p.bits) (word_on other p.bits) (pins_say more value) (pins_say more other) e ∙ ap (word_on other) pins.0.bits))
+
     only : IsNetIn (single pins.0.net) net → net ≡ pins.0.net
     only (inl f) = f
     only (inr g) = absurd g
+
     by : IsNetIn p.bits net ⊎ IsNetIn (flat_map (λ (q : PinUse). q.bits) more) net → (IsNetIn (flat_map (λ (q : PinUse). q.bits) more) net → value net ≡ other net) → value net ≡ other net
     by (inl g) rest =
         let same = only (subst (λ (bits : List ℕ). IsNetIn bits net) pins.0.bits g) in
@@ -218,21 +219,27 @@ same_driven value other on (p ∷ parts) simple same pv po net h =
   where
     s : IsSimple on p
     s = simple.0
+
     bit_heads : (a b : Bit) → a ∷ [] ≡ b ∷ [] → a ≡ b
     bit_heads a b e = cc
+
     carries_of : (w : ℕ → Bit) → PartCarries w p → Carries w s.output (gate_word p.cell (length s.output) (map (word_at w) p.inputs))
     carries_of w c = (subst (λ (ports : List (List ℕ)). AllByRecursion (λ (bits : List ℕ). Carries w bits (gate_word p.cell (length bits) (map (word_at w) p.inputs))) ports) s.gives c).0
+
     words : gate_word p.cell 1 (map (word_at value) p.inputs) ≡ gate_word p.cell 1 (map (word_at other) p.inputs)
     words =
         ap (λ (ports : List (List ℕ)). gate_word p.cell 1 (map (word_at value) ports)) s.reads
         ∙ (ap (gate_word p.cell 1) (same_inputs value other on (s.first ∷ s.more) same s.among)
         ∙ ap (λ (ports : List (List ℕ)). gate_word p.cell 1 (map (word_at other) ports)) (sym s.reads))
+
     not_empty : (out : List ℕ) (k : ℕ) (word : List Bit) (w : ℕ → Bit) → out ≡ single k → Carries w out word → word_on w out ≡ word
     not_empty out k word w e (inl f) = absurd (cc (sym e ∙ f))
     not_empty out k word w e (inr f) = f
+
     at_net : (w : ℕ → Bit) (k : ℕ) → s.output ≡ single k → PartCarries w p → w k ∷ [] ≡ gate_word p.cell 1 (map (word_at w) p.inputs)
     at_net w k e c =
         sym (ap (word_on w) e) ∙ (not_empty s.output k (gate_word p.cell (length s.output) (map (word_at w) p.inputs)) w e (carries_of w c) ∙ ap (λ (out : List ℕ). gate_word p.cell (length out) (map (word_at w) p.inputs)) e)
+
     in_output : (out : List ℕ) → IsLoose out → (k : ℕ) → IsNetIn (out ++ []) k → out ≡ single k
     in_output out (inl e) k h = absurd (subst (λ (o : List ℕ). IsNetIn (o ++ []) k) e h)
     in_output out (inr w) k h = by (subst (λ (o : List ℕ). IsNetIn (o ++ []) k) w.1 h)
@@ -240,6 +247,7 @@ same_driven value other on (p ∷ parts) simple same pv po net h =
         by : (k ≡ w.0) ⊎ ⊥ → out ≡ single k
         by (inl e) = w.1 ∙ ap single (sym e)
         by (inr f) = absurd f
+
     by : IsNetIn (flat_map (λ (b : List ℕ). b) p.outputs) net ⊎ IsNetIn (driven_by_parts parts) net → (IsNetIn (driven_by_parts parts) net → value net ≡ other net) → value net ≡ other net
     by (inl g) rest =
         let here = in_output s.output s.loose net (subst (λ (ports : List (List ℕ)). IsNetIn (flat_map (λ (b : List ℕ). b) ports) net) s.gives g) in
@@ -256,8 +264,8 @@ same_outputs value other on (p ∷ more) pins same =
 static_only : (n : Netlist) → IsPlain n → (row : List (List Bit)) (value other : ℕ → Bit) → AreStaticValues n row value → AreStaticValues n row other → output_words n other ≡ output_words n value
 static_only n plain row value other sv so =
     let on_pins : (net : ℕ) → IsNetIn (driven_by_pins n.pins) net → other net ≡ value net = λ net h.
-        same_words other value (driven_by_pins n.pins) (input_pins n) plain.inputs (so.pins ∙ sym sv.pins) net
-        (subst (λ (nets : List ℕ). IsNetIn nets net) (sym (ap (flat_map (λ (p : PinUse). p.bits)) plain.input_pins_are)) h) in
+    same_words other value (driven_by_pins n.pins) (input_pins n) plain.inputs (so.pins ∙ sym sv.pins) net
+    (subst (λ (nets : List ℕ). IsNetIn nets net) (sym (ap (flat_map (λ (p : PinUse). p.bits)) plain.input_pins_are)) h) in
     same_outputs other value (driven n) (output_pins n) plain.outputs
     (λ net h. elim (split_net (driven_by_parts n.parts) (driven_by_pins n.pins) net h) [
       | inl g ↦ same_driven other value (driven_by_pins n.pins) n.parts plain.parts on_pins so.parts sv.parts net g

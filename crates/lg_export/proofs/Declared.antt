@@ -1,5 +1,5 @@
 -- All that the module declares has one bit, and is an input or stands on the left of an equation.
-use Rattle.std.proofs.Common.{◌≡◌, ℕ, zero, suc, ◌+◌, ◌^◌, ◌<◌, ◌≤◌, Bool, true, false, not, List, [], ◌∷◌, ◌++◌, length, map, filter, refl, sym, ap, subst, ◌∙◌, arith, inl, inr, ◌⊎◌}
+use Rattle.std.proofs.Common.{◌≡◌, ℕ, ◌+◌, ◌<◌, ◌≤◌, not, List, [], ◌∷◌, ◌++◌, length, map, filter, refl, sym, ap, subst, ◌∙◌, arith, inl, inr, ◌⊎◌}
 use Rattle.std.specs.List.{AllByRecursion, flat_map, enumerate_from}
 use Rattle.std.proofs.lemmas.Bool.{cases_eq}
 use Rattle.std.proofs.lemmas.List.{map-append}
@@ -13,7 +13,6 @@ use Rattle.lg_verilog.specs.declared.module.Port.{Port}
 use Rattle.lg_verilog.specs.declared.module.Decl.{Decl}
 use Rattle.lg_verilog.specs.declared.module.Decl.TheVariants as decl
 use Rattle.lg_verilog.specs.declared.module.Assign.{Assign}
-use Rattle.lg_verilog.specs.declared.module.Module.{Module}
 use Rattle.lg_vmeaning.specs.Meaning.{Line, port_line, decl_line, declared, width_of, is_input, input_names, output_names}
 use Rattle.lg_vmeaning.specs.InOrder.{IsIn, AreInOrder}
 use Rattle.lg_vmeaning.proofs.InOrderLemmas.{AllDiffer, IsGiven, IsOrdered, assigned}
@@ -165,7 +164,7 @@ all_given n plain =
     (given_outputs known assigns (drivers n) (output_pins n) (λ name h. subst (λ (all : List (List ℕ)). IsIn all name) (sym names) (IsIn-right (assigned parts) (assigned outs) name h)))))
     (given_decls known assigns decls (narrow-parts 0 (driven_by_pins n.pins) n.parts plain.parts)
     (λ name h. subst (λ (all : List (List ℕ)). IsIn all name) (sym names)
-        (IsIn-left (assigned parts) (assigned outs) name (subst (λ (all : List (List ℕ)). IsIn all name) (parts_given (drivers n) 0 (driven_by_pins n.pins) n.parts plain.parts) h))))
+    (IsIn-left (assigned parts) (assigned outs) name (subst (λ (all : List (List ℕ)). IsIn all name) (parts_given (drivers n) 0 (driven_by_pins n.pins) n.parts plain.parts) h))))
 
 only_width : (known : List (List ℕ)) (assigns : List Assign) (lines : List Line) → AreGiven known assigns lines → AllByRecursion (λ (l : Line). l.1 ≡ 1) lines
 only_width known assigns [] h = tt
@@ -179,10 +178,13 @@ first_wire on k last (p ∷ parts) e simple q low high = by (cases_eq q k) (λ m
   where
     decls : List Decl
     decls = flat_map part_decls (enumerate_from (k + 1) parts)
+
     whole : names_of (part_decls (k, p) ++ decls) ≡ names_of (part_decls (k, p)) ++ names_of decls
     whole = map-append (λ (d : Decl). (decl_line d).0) (part_decls (k, p)) decls
+
     here : IsIn (names_of (part_decls (k, p))) (input_wire k 0)
     here = subst (λ (ds : List Decl). IsIn (names_of ds) (input_wire k 0)) (sym (part_decls-is k on p simple.0)) (inl refl)
+
     by : (q ≡ k) ⊎ (q ≡ k → ⊥) → (k + 1 ≤ q → IsIn (names_of decls) (input_wire q 0)) → IsIn (names_of (part_decls (k, p) ++ decls)) (input_wire q 0)
     by (inl f) rest = subst (λ (all : List (List ℕ)). IsIn all (input_wire q 0)) (sym whole) (IsIn-left (names_of (part_decls (k, p))) (names_of decls) (input_wire q 0) (subst (λ (j : ℕ). IsIn (names_of (part_decls (k, p))) (input_wire j 0)) (sym f) here))
     by (inr ne) rest = subst (λ (all : List (List ℕ)). IsIn all (input_wire q 0)) (sym whole) (IsIn-right (names_of (part_decls (k, p))) (names_of decls) (input_wire q 0) (rest (above k q low ne)))

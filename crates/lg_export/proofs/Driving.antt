@@ -1,7 +1,7 @@
 -- Where no net has two drivers, the name that is found for a net is that of its driver.
-use Rattle.std.proofs.Common.{◌≡◌, ℕ, zero, suc, ◌+◌, ◌<◌, ◌≤◌, Bool, true, false, not, ◌&&◌, ◌||◌, cond, List, [], ◌∷◌, ◌++◌, length, map, filter, eq-eqb, refl, sym, ap, subst, ◌∙◌, arith, inl, inr, ◌⊎◌}
-use Rattle.std.specs.Prelude.{◌==◌, IsTrue, find, option_map, unwrap_or}
-use Rattle.std.specs.List.{AllByRecursion, list_any, flat_map, enumerate_from}
+use Rattle.std.proofs.Common.{◌≡◌, ℕ, ◌+◌, ◌<◌, ◌≤◌, Bool, true, false, not, ◌||◌, List, [], ◌∷◌, ◌++◌, length, map, eq-eqb, refl, sym, ap, subst, ◌∙◌, arith, inl, inr, ◌⊎◌}
+use Rattle.std.specs.Prelude.{◌==◌}
+use Rattle.std.specs.List.{AllByRecursion, list_any, flat_map}
 use Rattle.std.proofs.lemmas.Bool.{eqb-true, false≢true}
 use Rattle.std.proofs.lemmas.List.{map-append, append-nil}
 use Rattle.lg_netlist.specs.declared.netlist.PartUse.{PartUse}
@@ -11,7 +11,7 @@ use Rattle.lg_netlist.specs.OneGate.{driven_by_parts, driven_by_pins, driven, is
 use Rattle.lg_netlist.specs.Static.{input_pins}
 use Rattle.lg_vmeaning.specs.InOrder.{IsIn}
 use Rattle.lg_export.specs.Layout.{input_name, output_wire, output_drivers, part_drivers, drivers, driver_name}
-use Rattle.lg_export.proofs.Simple.{both_hold, IsNetIn, IsNetIn-right, single, IsSimple, IsPlain}
+use Rattle.lg_export.proofs.Simple.{both_hold, IsNetIn, IsSimple, IsPlain}
 use Rattle.lg_export.specs.Readable.{IsDriven}
 
 -- the net and the name of what drives it
@@ -55,6 +55,7 @@ driver_name-entry (d ∷ more) net name differ (inr h) =
     no : (b : Bool) → not b ≡ true → b ≡ true → ⊥
     no true h k = false≢true h
     no false h k = false≢true k
+
     by : (t : Bool) → (d.0 == net) ≡ t → not (is_among (nets_of more) d.0) ≡ true → driver_name more net ≡ name → driver_name (d ∷ more) net ≡ name
     by true e other rest = absurd (no (is_among (nets_of more) d.0) other (subst (λ (k : ℕ). is_among (nets_of more) k ≡ true) (sym (eqb-true d.0 net e)) (among_entry more net name h)))
     by false e other rest = rw e rest
@@ -138,6 +139,7 @@ pin_driven (p ∷ pins) net h = by (split_net p.bits (flat_map (λ (q : PinUse).
   where
     here : List Entry
     here = map (λ k. (k, input_name p)) p.bits
+
     by : IsNetIn p.bits net ⊎ IsNetIn (flat_map (λ (q : PinUse). q.bits) pins) net → (IsNetIn (flat_map (λ (q : PinUse). q.bits) pins) net → IsPinDriven (names_in pins) (pins_drive pins) net)
         → IsPinDriven (names_in (p ∷ pins)) (pins_drive (p ∷ pins)) net
     by (inl h) rest = record { name = input_name p; entry = IsEntry-left here (pins_drive pins) net (input_name p) (entry_of_bits (input_name p) p.bits net h); among = inl refl }
@@ -167,8 +169,10 @@ part_driven on part last (p ∷ parts) net e simple h =
   where
     s : IsSimple on p
     s = simple.0
+
     here : List Entry
     here = output_drivers part 0 p.outputs
+
     one_output : (out : List ℕ) → p.outputs ≡ out ∷ [] → IsNetIn (flat_map (λ (b : List ℕ). b) p.outputs) net → IsEntry here net (output_wire part 0)
     one_output out gives k =
         let bits : IsNetIn (out ++ []) net = subst (λ (outs : List (List ℕ)). IsNetIn (flat_map (λ (b : List ℕ). b) outs) net) gives k in
@@ -181,6 +185,7 @@ part_driven on part last (p ∷ parts) net e simple h =
           where
             drop_nil : (xs : List ℕ) → IsNetIn (xs ++ []) net → IsNetIn xs net
             drop_nil xs h = subst (λ (ys : List ℕ). IsNetIn ys net) (append-nil xs) h
+
     by : IsNetIn (flat_map (λ (b : List ℕ). b) p.outputs) net ⊎ IsNetIn (driven_by_parts parts) net → (IsNetIn (driven_by_parts parts) net → IsPartDriven (part + 1) last (part_drivers (part + 1) parts) net)
         → IsPartDriven part last (part_drivers part (p ∷ parts)) net
     by (inl k) rest = record { q = part; low = omega arith; high = omega (arith, e); entry = IsEntry-left here (part_drivers (part + 1) parts) net (output_wire part 0) (one_output s.output s.gives k) }

@@ -1,6 +1,6 @@
 -- The values of the equations that are written: a name, an inverted name, and names joined by an operator.
-use Rattle.std.proofs.Common.{◌≡◌, ℕ, zero, suc, ◌-◌, ◌^◌, ◌<◌, List, [], ◌∷◌, map, fold, option_map, unwrap_or, Bool, true, false, cond, refl, sym, ap, subst, ◌∙◌, arith, inl, inr, ◌⊎◌, lit<}
-use Rattle.std.specs.Prelude.{bit_and, bit_or, find}
+use Rattle.std.proofs.Common.{◌≡◌, ℕ, zero, suc, ◌-◌, ◌^◌, ◌<◌, List, [], ◌∷◌, map, fold, option_map, unwrap_or, Bool, true, false, refl, sym, ap, subst, ◌∙◌, arith, inl, inr, ◌⊎◌, lit<}
+use Rattle.std.specs.Prelude.{find}
 use Rattle.std.specs.List.{AllByRecursion}
 use Rattle.std.specs.Str.{bytes_eq}
 use Rattle.std.proofs.lemmas.Bool.{false≢true}
@@ -15,7 +15,7 @@ use Rattle.lg_verilog.specs.declared.module.Expr.TheVariants as expr
 use Rattle.lg_verilog.specs.declared.module.Operator.{Operator}
 use Rattle.lg_verilog.specs.declared.module.Operator.TheVariants as operator
 use Rattle.lg_verilog.specs.declared.module.Module.{Module}
-use Rattle.lg_vmeaning.specs.Meaning.{Valuation, Line, declared, value_of, width_of, form_value, operator_value}
+use Rattle.lg_vmeaning.specs.Meaning.{Valuation, Line, value_of, width_of, form_value, operator_value}
 use Rattle.lg_vmeaning.specs.InOrder.{IsIn, AgreeAt, ReadsOnly, IsOneBit}
 use Rattle.lg_export.specs.Layout.{equation, joined}
 
@@ -100,6 +100,7 @@ operator_small op a b ha hb = by op (IsBit-cases a ha) (IsBit-cases b hb)
   where
     at : (op : Operator) (c d : ℕ) → a ≡ c → b ≡ d → operator_value op c d < 2 → operator_value op a b < 2
     at op c d e f low = subst (λ (k : ℕ). operator_value op k b < 2) (sym e) (subst (λ (k : ℕ). operator_value op c k < 2) (sym f) low)
+
     by : (op : Operator) → (a ≡ 0) ⊎ (a ≡ 1) → (b ≡ 0) ⊎ (b ≡ 1) → operator_value op a b < 2
     by operator.And (inl e) (inl f) = at operator.And 0 0 e f (lit< tt)
     by operator.And (inl e) (inr f) = at operator.And 0 1 e f (lit< tt)

@@ -1,7 +1,7 @@
 -- A one-gate netlist has what the layout asks for.
-use Rattle.std.proofs.Common.{◌≡◌, ℕ, zero, suc, ◌+◌, ◌<◌, ◌≤◌, Bool, true, false, List, [], ◌∷◌, ◌++◌, length, map, filter, not, None, refl, sym, ap, subst, ◌∙◌, arith, inl, inr, ◌⊎◌, lit<, eq-eqb, ◌||◌}
-use Rattle.std.specs.Prelude.{◌==◌, IsTrue, slice_index, All}
-use Rattle.std.specs.List.{AllByRecursion, list_any, flat_map, enumerate_from}
+use Rattle.std.proofs.Common.{◌≡◌, ℕ, ◌+◌, ◌<◌, Bool, true, false, List, [], ◌∷◌, length, map, filter, refl, sym, subst, arith, inl, inr, lit<, eq-eqb, ◌||◌}
+use Rattle.std.specs.Prelude.{◌==◌, slice_index, All}
+use Rattle.std.specs.List.{AllByRecursion, list_any}
 use Rattle.std.proofs.lemmas.List.Elements.{All-cons, All-nil, All-head, All-tail, All-append, All-same, All-filter, All-weaker}
 use Rattle.lg_netlist.specs.declared.netlist.PartUse.{PartUse}
 use Rattle.lg_netlist.specs.declared.netlist.PinUse.{PinUse}
@@ -9,9 +9,9 @@ use Rattle.lg_netlist.specs.declared.netlist.Netlist.{Netlist}
 use Rattle.lg_netlist.specs.Valid.{AreNets, IsPort, IsFittingPart, IsFittingPin, IsValid}
 use Rattle.lg_netlist.specs.OneGate.{driven_by_parts, driven_by_pins, driven, is_one_gate}
 use Rattle.lg_netlist.specs.Static.{data_pins, input_pins, output_pins}
-use Rattle.lg_export.specs.Layout.{input_name, output_wire, output_drivers, part_drivers, drivers, attached}
+use Rattle.lg_export.specs.Layout.{input_name, output_wire, output_drivers, part_drivers, drivers}
 use Rattle.lg_export.specs.Readable.{IsNamed, IsDriven, IsReadable, IsFed, CanBeLaidOut}
-use Rattle.lg_export.proofs.Simple.{IsNetIn, IsNetIn-right, single, IsSimple, IsPinOn, IsPlain, IsPlain-from}
+use Rattle.lg_export.proofs.Simple.{IsNetIn, IsNetIn-right, single, IsSimple, IsPinOn, IsPlain-from}
 use Rattle.lg_export.proofs.Driving.{Entry, nets_of, pins_drive, nets_of-drivers}
 use Rattle.lg_export.proofs.Ordered.{attached-is}
 

@@ -10,3 +10,4 @@ pub mod Gates
 pub mod Agreeing
 pub mod PlaceLemmas
 pub mod LaidOut
+pub mod OneNot

@@ -1,29 +1,24 @@
 -- The equations of the module stand in order: inputs of a gate, the gate, and at the end the output pins.
-use Rattle.std.proofs.Common.{◌≡◌, ℕ, zero, suc, ◌+◌, ◌^◌, ◌<◌, ◌≤◌, Bool, true, false, not, List, [], ◌∷◌, ◌++◌, length, map, filter, refl, sym, ap, subst, ◌∙◌, arith, inl, inr, ◌⊎◌, append_assoc, lit<, below_more}
-use Rattle.std.specs.Prelude.{◌==◌, option_map, unwrap_or, find}
+use Rattle.std.proofs.Common.{◌≡◌, ℕ, ◌+◌, ◌^◌, ◌<◌, ◌≤◌, not, List, [], ◌∷◌, ◌++◌, length, map, filter, refl, sym, ap, subst, ◌∙◌, arith, inl, inr, ◌⊎◌, append_assoc, below_more}
+use Rattle.std.specs.Prelude.{◌==◌}
 use Rattle.std.specs.List.{AllByRecursion, flat_map, enumerate_from}
-use Rattle.std.specs.Str.{bytes_eq}
-use Rattle.std.proofs.lemmas.List.{append-nil, map-append}
 use Rattle.lg_netlist.specs.declared.netlist.Cell.{Cell}
 use Rattle.lg_netlist.specs.declared.netlist.PartUse.{PartUse}
 use Rattle.lg_netlist.specs.declared.netlist.PinUse.{PinUse}
 use Rattle.lg_netlist.specs.declared.netlist.Netlist.{Netlist}
 use Rattle.lg_netlist.specs.OneGate.{driven_by_pins, driven}
 use Rattle.lg_netlist.specs.Static.{input_pins, output_pins}
-use Rattle.lg_verilog.specs.declared.module.Direction.TheVariants.{Input, Output}
-use Rattle.lg_verilog.specs.declared.module.Port.{Port}
 use Rattle.lg_verilog.specs.declared.module.Decl.{Decl}
 use Rattle.lg_verilog.specs.declared.module.Decl.TheVariants as decl
 use Rattle.lg_verilog.specs.declared.module.Expr.{Expr}
 use Rattle.lg_verilog.specs.declared.module.Expr.TheVariants as expr
 use Rattle.lg_verilog.specs.declared.module.Assign.{Assign}
 use Rattle.lg_verilog.specs.declared.module.Module.{Module}
-use Rattle.lg_vmeaning.specs.Meaning.{Line, port_line, decl_line, declared, width_of, is_input, input_names, output_names}
+use Rattle.lg_vmeaning.specs.Meaning.{width_of}
 use Rattle.lg_vmeaning.specs.InOrder.{IsIn, ReadsOnly, IsOneBit, AreInOrder}
-use Rattle.lg_vmeaning.proofs.InOrderLemmas.{AllDiffer, IsGiven, IsOrdered, assigned}
-use Rattle.lg_export.specs.Layout.{numbered, input_name, output_name, input_wire, output_wire, drivers, driver_name, bits_value, attached, equation, part_decls, part_assigns, module_of, module_assigns, module_ports}
-use Rattle.lg_export.proofs.Forms.{AreKnown, ReadsOnly-Whole, IsOneBit-Whole, ReadsOnly-equation, IsOneBit-equation, width-one}
-use Rattle.lg_export.proofs.WireNames.{initial, initial-input_wire, initial-output_wire, initial-input_name, initial-output_name, apart, input_wire_same, output_wire_same, input_name_same, output_name_same}
+use Rattle.lg_export.specs.Layout.{output_name, input_wire, output_wire, drivers, driver_name, bits_value, attached, equation, part_decls, part_assigns, module_assigns}
+use Rattle.lg_export.proofs.Forms.{AreKnown, ReadsOnly-Whole, IsOneBit-Whole, ReadsOnly-equation, IsOneBit-equation}
+use Rattle.lg_export.proofs.WireNames.{initial, initial-input_wire, initial-output_wire, initial-input_name, initial-output_name, apart, input_wire_same, output_wire_same, output_name_same}
 use Rattle.lg_export.proofs.Simple.{IsNetIn, single, IsSimple, IsPinOn, NoneNamed, NamesDiffer, IsPlain}
 use Rattle.lg_export.proofs.Driving.{names_in, IsSource, from_pin, from_source}
 
@@ -178,8 +173,7 @@ order_inputs m on D pins k last inputs fed few most known i [] rest e among know
     go known (subst (λ (j : ℕ). Knows pins k j known) done knows)
 order_inputs m on D pins k last inputs fed few most known i (net ∷ nets) rest e among knows go =
     let small : i < 64 = omega (arith, e) in
-    let source = knows.has_pins (driver_name D net) (fed net among.0) in
-    (
+    let source = knows.has_pins (driver_name D net) (fed net among.0) in (
       ReadsOnly-Whole m known (driver_name D net) source,
       IsOneBit-Whole m known (driver_name D net) source,
       λ h. input_is_new pins k i inputs few small (knows.earlier (input_wire k i) h),
@@ -205,13 +199,12 @@ order_part m on D pins k inputs fed few narrow known p s rest knows go =
     subst (AreInOrder m known) (sym whole)
     (order_inputs m on D pins k last inputs fed few s.few known 0 nets (w_assign k p.cell nets ∷ rest) (omega arith) s.among knows
     (λ after now.
-        let here = names_known pins k last after now 0 nets (omega arith) in
-        (
-          ReadsOnly-equation m after p.cell (input_wire k 0) (x_names k 1 s.more) narrow here,
-          IsOneBit-equation m after p.cell (input_wire k 0) (x_names k 1 s.more) narrow here,
-          λ h. output_is_new pins k last inputs few (now.earlier (output_wire k 0) h),
-          go (output_wire k 0 ∷ after) (Knows-output pins k last after now),
-        )))
+    let here = names_known pins k last after now 0 nets (omega arith) in (
+      ReadsOnly-equation m after p.cell (input_wire k 0) (x_names k 1 s.more) narrow here,
+      IsOneBit-equation m after p.cell (input_wire k 0) (x_names k 1 s.more) narrow here,
+      λ h. output_is_new pins k last inputs few (now.earlier (output_wire k 0) h),
+      go (output_wire k 0 ∷ after) (Knows-output pins k last after now),
+    )))
 
 order_parts : (m : Module) (on : List ℕ) (D : List (ℕ × List ℕ)) (pins : List (List ℕ)) (last : ℕ) → AreInputs pins → FedBy on D pins → last < 2 ^ 32 → AreWires m last
     → (known : List (List ℕ)) (k : ℕ) (parts : List PartUse) (rest : List Assign) → k + length parts ≡ last → AllByRecursion (IsSimple on) parts → Knows pins k 0 known
@@ -246,8 +239,7 @@ order_outputs : (m : Module) (on : List ℕ) (D : List (ℕ × List ℕ)) (known
 order_outputs m on D known [] sources pins differ new = tt
 order_outputs m on D known (p ∷ outs) sources pins differ new =
     let source = sources pins.0.net pins.0.among in
-    let value : bits_value D p.bits ≡ expr.Whole (driver_name D pins.0.net) = ap (bits_value D) pins.0.bits in
-    (
+    let value : bits_value D p.bits ≡ expr.Whole (driver_name D pins.0.net) = ap (bits_value D) pins.0.bits in (
       subst (ReadsOnly m known) (sym value) (ReadsOnly-Whole m known (driver_name D pins.0.net) source),
       subst (IsOneBit m known) (sym value) (IsOneBit-Whole m known (driver_name D pins.0.net) source),
       new.0,

@@ -1,6 +1,6 @@
 -- One driver more in the index.
-use Rattle.std.proofs.Common.{◌≡◌, ℕ, suc, ◌+◌, ◌<◌, ◌≤◌, Bool, true, false, ◌||◌, cond, List, [], ◌∷◌, ◌++◌, length, take, get_or, set, replicate, Option, Some, None, eq-eqb, refl, sym, ap, subst, ◌∙◌, arith, inl, inr, ◌⊎◌, if◌then◌else◌}
-use Rattle.std.specs.Prelude.{◌==◌, find, is_none, slice_get, slice_index_or, slice_set, All, option_and_then}
+use Rattle.std.proofs.Common.{◌≡◌, ℕ, ◌+◌, ◌<◌, ◌≤◌, Bool, true, false, ◌||◌, cond, List, [], ◌∷◌, ◌++◌, length, take, get_or, set, replicate, Option, Some, None, eq-eqb, refl, sym, ap, subst, ◌∙◌, arith, inl, inr, ◌⊎◌}
+use Rattle.std.specs.Prelude.{◌==◌, find, slice_index_or, All}
 use Rattle.std.specs.Option.{option_or}
 use Rattle.std.specs.List.{list_any}
 use Rattle.std.proofs.lemmas.Bool.{cases_eq, cases_lt, eqb-true, false≢true}
@@ -94,9 +94,11 @@ ArePlacesOf-more drivers done nets first d a less is small = by (slice_index_or 
       where
         here : slice_index_or (set first d.0 (Some done)) d.0 None ≡ Some done
         here = get_or-set_same first d.0 (Some done) None (omega (arith, a.as_many, small))
+
         place_of : (net place : ℕ) → (net ≡ d.0) ⊎ (net ≡ d.0 → ⊥) → slice_index_or (set first d.0 (Some done)) net None ≡ Some place → place < length drivers
         place_of net place (inl f) h = let same : done ≡ place = some_is done place (sym here ∙ (ap (λ (k : ℕ). slice_index_or (set first d.0 (Some done)) k None) (sym f) ∙ h)) in omega (arith, same, less)
         place_of net place (inr ne) h = a.places net place (sym (get_or-set_other first d.0 net (Some done) None ne) ∙ h)
+
         at : (net : ℕ) → net < nets → (net ≡ d.0) ⊎ (net ≡ d.0 → ⊥)
             → at_place drivers (slice_index_or (set first d.0 (Some done)) net None) ≡ option_or (find (λ (e : Entry). e.0 == net) (take done drivers)) (cond (d.0 == net) (Some d) None)
         at net low (inl f) =

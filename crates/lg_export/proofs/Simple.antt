@@ -1,7 +1,7 @@
 -- What a one-gate netlist looks like: pins of one net each, and parts whose inputs are on nets of input pins.
-use Rattle.std.proofs.Common.{◌≡◌, ◌≢◌, ℕ, zero, suc, ◌^◌, ◌<◌, ◌≤◌, Bool, true, false, not, ◌&&◌, ◌||◌, List, [], ◌∷◌, ◌++◌, length, map, filter, None, eq-eqb, refl, sym, ap, subst, ◌∙◌, arith, inl, inr, ◌⊎◌, append_assoc, Option, Some, ◌+◌}
-use Rattle.std.specs.Prelude.{◌==◌, IsTrue, All, is_none, get_or}
-use Rattle.std.specs.List.{AllByRecursion, list_all, list_any, flat_map, enumerate_from, IsDistinct}
+use Rattle.std.proofs.Common.{◌≡◌, ℕ, suc, ◌^◌, ◌<◌, ◌≤◌, Bool, true, false, not, ◌&&◌, ◌||◌, List, [], ◌∷◌, ◌++◌, length, map, filter, None, refl, sym, ap, subst, ◌∙◌, arith, inl, inr, ◌⊎◌, append_assoc, Option, Some, ◌+◌}
+use Rattle.std.specs.Prelude.{◌==◌, IsTrue, All, is_none}
+use Rattle.std.specs.List.{AllByRecursion, list_all, enumerate_from, IsDistinct}
 use Rattle.std.specs.Str.{bytes_eq}
 use Rattle.std.proofs.lemmas.Bool.{eqb-true, false≢true}
 use Rattle.std.proofs.lemmas.List.Elements.{All-head, All-tail}
@@ -12,7 +12,7 @@ use Rattle.lg_netlist.specs.declared.netlist.PartUse.{PartUse}
 use Rattle.lg_netlist.specs.declared.netlist.PinUse.{PinUse}
 use Rattle.lg_netlist.specs.declared.netlist.Netlist.{Netlist}
 use Rattle.lg_netlist.specs.Valid.{is_pin_name, TakesInputs, IsPort, IsFittingPart, IsFittingPin, IsValid}
-use Rattle.lg_netlist.specs.OneGate.{driven_by_parts, driven_by_pins, driven, is_among, all_differ, is_on, is_one_gate, has_no_clock, has_single_drivers, gates_read_pins, outputs_are_driven}
+use Rattle.lg_netlist.specs.OneGate.{driven_by_pins, driven, is_among, all_differ, is_on, is_one_gate, has_no_clock, has_single_drivers, gates_read_pins, outputs_are_driven}
 use Rattle.lg_netlist.specs.Static.{data_pins, input_pins, output_pins}
 
 pub both_hold : (a b : Bool) → (a && b) ≡ true → (a ≡ true) × (b ≡ true)
@@ -116,9 +116,15 @@ IsSimple-from nets on p fits inputs =
         → 1 ≤ length p.inputs → length p.inputs ≤ 64 → (p.cell ≡ Not → length p.inputs ≡ 1) → IsSimple on p
     by [] are among as_many output gives loose some few alone = absurd (omega (arith, some, as_many))
     by (first ∷ more) are among as_many output gives loose some few alone = record {
-      first = first; more = more; reads = are; among = among; few = omega (arith, few, as_many);
+      first = first;
+      more = more;
+      reads = are;
+      among = among;
+      few = omega (arith, few, as_many);
       alone = λ e. no_more more (omega (arith, alone e, as_many));
-      output = output; gives = gives; loose = loose;
+      output = output;
+      gives = gives;
+      loose = loose;
     }
 
 AreSimple-from : (nets : ℕ) (on : List ℕ) (parts : List PartUse) → All (IsFittingPart nets) parts → list_all (λ (p : PartUse). list_all (is_on on) p.inputs) parts ≡ true → AllByRecursion (IsSimple on) parts
@@ -185,8 +191,10 @@ inputs_on nets before (p ∷ pins) fits =
   where
     here : IsFittingPin nets p
     here = All-head (IsFittingPin nets) p pins fits
+
     inputs : List PinUse
     inputs = filter (λ (q : PinUse). q.input) pins
+
     by : (t : Bool) → p.input ≡ t → AllByRecursion (IsPinOn (before ++ driven_by_pins pins)) inputs → AllByRecursion (IsPinOn ((before ++ p.bits) ++ driven_by_pins pins)) inputs
         → AllByRecursion (IsPinOn (before ++ driven_by_pins (p ∷ pins))) (filter (λ (q : PinUse). q.input) (p ∷ pins))
     by true e skipped rest_all =

@@ -1,5 +1,5 @@
 -- An index of drivers by net.
-use Rattle.std.specs.Prelude.{◌≡◌, ◌<◌, ◌==◌, ℕ, Bool, List, length, find, is_none, Option, Some, None, option_and_then, slice_get, slice_set, slice_index_or, if◌then◌else◌, All}
+use Rattle.std.specs.Prelude.{◌≡◌, ◌<◌, ◌==◌, ℕ, List, length, find, is_none, Option, Some, None, option_and_then, slice_get, slice_set, slice_index_or, if◌then◌else◌, All}
 
 -- the driver at a place, where there is one
 abbrev pub at_place : List (ℕ × List ℕ) → Option ℕ → Option (ℕ × List ℕ)

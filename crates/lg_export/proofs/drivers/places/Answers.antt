@@ -1,9 +1,9 @@
 -- One driver more.
-use Rattle.std.proofs.Common.{◌≡◌, ℕ, ◌+◌, ◌<◌, ◌++◌, List, Option, length, drop, take, sym, ap, subst, ◌∙◌, arith}
+use Rattle.std.proofs.Common.{◌≡◌, ℕ, ◌<◌, ◌++◌, List, Option, length, drop, take, sym, ap, subst, ◌∙◌, arith}
 use Rattle.std.proofs.lemmas.List.{take_at}
 use Rattle.std.proofs.lemmas.List.Elements.{All-get_or}
 use Rattle.lg_export.specs.Places.{noted}
-use Rattle.lg_export.proofs.PlaceLemmas.{ArePlacesOf, ArePlacesOf-start, ArePlacesOf-more, ArePlaces-all}
+use Rattle.lg_export.proofs.PlaceLemmas.{ArePlacesOf-more, ArePlaces-all}
 use Rattle.lg_export.proofs.drivers.places.Goals as goal
 
 pub loop-place-preserved : goal.loop-place-preserved

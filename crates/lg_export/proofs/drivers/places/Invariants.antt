@@ -1,4 +1,3 @@
-use Rattle.std.proofs.Common.{◌≡◌, take}
 use Rattle.lg_export.proofs.PlaceLemmas.{ArePlacesOf}
 use Rattle.lg_export.proofs.drivers.places.Given as goal
 

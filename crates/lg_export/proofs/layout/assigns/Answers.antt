@@ -1,5 +1,5 @@
 -- Each output pin has a name that a module can spell, and something drives it.
-use Rattle.std.proofs.Common.{◌≡◌, List, ℕ, ap, sym, subst, not, ◌∙◌}
+use Rattle.std.proofs.Common.{List, ℕ, ap, sym, subst, not, ◌∙◌}
 use Rattle.std.proofs.lemmas.List.Elements.{All-filter}
 use Rattle.lg_netlist.specs.declared.netlist.PinUse.{PinUse}
 use Rattle.lg_netlist.specs.Static.{data_pins, output_pins}

@@ -1,10 +1,8 @@
 -- A driven net is in the index, with the place of its first driver.
-use Rattle.std.proofs.Common.{◌≡◌, ℕ, ◌<◌, List, Option, Some, None, length, get_or, refl, sym, ap, subst, ◌∙◌, arith}
-use Rattle.std.specs.Prelude.{◌==◌, slice_get, slice_index_or, find, option_map, unwrap_or}
+use Rattle.std.proofs.Common.{◌≡◌, ℕ, ◌<◌, List, Option, Some, None, length, sym, ap, subst, ◌∙◌, arith}
+use Rattle.std.specs.Prelude.{◌==◌, slice_get, slice_index_or, find}
 use Rattle.std.proofs.lemmas.List.{get_or_default}
-use Rattle.std.proofs.lemmas.Option.{slice_get-get_or}
-use Rattle.lg_export.specs.Places.{at_place, ArePlaces}
-use Rattle.lg_export.specs.Layout.{driver_name}
+use Rattle.lg_export.specs.Places.{at_place}
 use Rattle.lg_export.specs.Readable.{IsDriven}
 use Rattle.lg_export.proofs.PlaceLemmas.{driven_within, driven_found}
 use Rattle.lg_export.proofs.drivers.Drivers.place_of.Goals as goal
