@@ -1,18 +1,17 @@
 -- Marks of nets tell which nets are driven, and that none is driven twice.
-use Rattle.std.proofs.Common.{◌≡◌, ℕ, zero, suc, ◌+◌, ◌<◌, ◌≤◌, Bool, true, false, not, ◌&&◌, ◌||◌, if◌then◌else◌, List, [], ◌∷◌, ◌++◌, length, get_or, set, refl, sym, ap, subst, ◌∙◌, arith, inl, inr, ◌⊎◌}
-use Rattle.std.specs.Prelude.{◌==◌, All, replicate, map, filter}
-use Rattle.std.specs.List.{list_all, list_any, flat_map}
+use Rattle.std.proofs.Common.{◌≡◌, ℕ, ◌<◌, ◌≤◌, Bool, true, false, not, ◌&&◌, ◌||◌, if◌then◌else◌, List, [], ◌∷◌, ◌++◌, length, get_or, set, refl, sym, ap, subst, ◌∙◌, arith, inl, inr, ◌⊎◌}
+use Rattle.std.specs.Prelude.{◌==◌, All, replicate, filter}
+use Rattle.std.specs.List.{list_all, flat_map}
 use Rattle.std.proofs.lemmas.Bool.{cases_lt, cases_eq, false≢true}
 use Rattle.std.proofs.lemmas.Bool.Decides.{Decides-eqb}
-use Rattle.std.proofs.lemmas.List.{get_or-set_same, get_or-set_other, get_or-replicate, get_or_past, length-replicate, length-set, append-nil}
+use Rattle.std.proofs.lemmas.List.{get_or-set_same, get_or-set_other, get_or-replicate, get_or_past, length-replicate, length-set}
 use Rattle.std.proofs.lemmas.List.Elements.{All-nil, All-append, All-head, All-tail}
 use Rattle.std.proofs.lemmas.List.Folds.{list_any-append}
 use Rattle.lg_netlist.specs.declared.netlist.PartUse.{PartUse}
 use Rattle.lg_netlist.specs.declared.netlist.PinUse.{PinUse}
-use Rattle.lg_netlist.specs.declared.netlist.Netlist.{Netlist}
 use Rattle.lg_netlist.specs.Marks.{are_new, marked, is_on_marked}
-use Rattle.lg_netlist.specs.OneGate.{driven_by_parts, driven_by_pins, driven, is_among, all_differ, is_on, has_no_clock, has_single_drivers, gates_read_pins, outputs_are_driven, is_one_gate}
-use Rattle.lg_netlist.specs.Valid.{AreNets, IsPort, IsFittingPart, IsFittingPin, IsValid}
+use Rattle.lg_netlist.specs.OneGate.{driven_by_parts, driven_by_pins, is_among, all_differ, is_on}
+use Rattle.lg_netlist.specs.Valid.{AreNets, IsPort, IsFittingPart, IsFittingPin}
 
 -- the nets that are marked are among these
 abbrev pub AreMarked : List Bool → List ℕ → Type 0

@@ -8,7 +8,7 @@ use Rattle.lg_netlist.specs.declared.netlist.PartUse.{PartUse}
 use Rattle.lg_netlist.specs.declared.netlist.PinUse.{PinUse}
 use Rattle.lg_netlist.specs.declared.netlist.Netlist.{Netlist}
 use Rattle.lg_netlist.specs.Marks.{are_new, marked, is_on_marked}
-use Rattle.lg_netlist.specs.OneGate.{driven_by_parts, driven_by_pins, driven, all_differ, is_on, has_no_clock, has_single_drivers, gates_read_pins, outputs_are_driven, is_one_gate}
+use Rattle.lg_netlist.specs.OneGate.{driven_by_parts, driven_by_pins, driven, all_differ, has_no_clock, has_single_drivers, gates_read_pins, outputs_are_driven, is_one_gate}
 use Rattle.lg_netlist.specs.Valid.{AreNets, IsFittingPart, IsFittingPin, IsValid}
 use Rattle.lg_netlist.proofs.MarkLemmas.{AreMarked, AreMarked-start, are_new-differ, marked-met, length-marked, all_differ-end, parts_read, pins_on, parts_drive_nets, pins_drive_nets}
 
@@ -38,6 +38,10 @@ pub record IsStart (n : Netlist) (marks : List Bool) (nets : List ℕ) : Type 0 
   pub valid : IsValid n
   pub unmarked : marks ≡ replicate n.nets false
   pub by_pins : nets ≡ driven_by_pins n.pins
+
+pub IsStart-of : (n : Netlist) (marks blank : List Bool) (nets items : List ℕ) (pins : List PinUse) → IsValid n → marks ≡ blank → blank ≡ replicate n.nets false → nets ≡ items
+    → items ≡ driven_by_pins pins → pins ≡ n.pins → IsStart n marks nets
+IsStart-of n marks blank nets items pins v e f g h i = record { valid = v; unmarked = e ∙ f; by_pins = g ∙ (h ∙ ap driven_by_pins i) }
 
 -- the nets that pins drive are marked, each once
 pub record ArePinsMarked (n : Netlist) (marks : List Bool) : Type 0 where
@@ -77,6 +81,11 @@ ArePinsMarked-after n marks after nets s e f = record {
 
 pub fitting_parts : (n : Netlist) (marks : List Bool) → ArePinsMarked n marks → All (IsFittingPart (length marks)) n.parts
 fitting_parts n marks m = rw m.as_many m.valid.parts
+
+-- what was found of the inputs of all gates
+pub read_of : (n : Netlist) (marks ms : List Bool) (parts : List PartUse) (b : Bool) → ms ≡ marks → parts ≡ n.parts → b ≡ list_all (λ (p : PartUse). list_all (is_on_marked ms) p.inputs) parts
+    → list_all (λ (p : PartUse). list_all (is_on_marked marks) p.inputs) n.parts ≡ b
+read_of n marks ms parts b e f g = rw (← e, ← f) (sym g)
 
 pub unread : (n : Netlist) (marks : List Bool) → ArePinsMarked n marks → list_all (λ (p : PartUse). list_all (is_on_marked marks) p.inputs) n.parts ≡ false → is_one_gate n ≡ false
 unread n marks m e = no_third (has_no_clock n) (has_single_drivers n) (gates_read_pins n) (outputs_are_driven n) (sym (parts_read marks (driven_by_pins n.pins) n.parts m.marked) ∙ e)

@@ -11,7 +11,7 @@ use Rattle.std.proofs.lemmas.List.{length-append, length-take, append-nil}
 use Rattle.std.proofs.lemmas.List.Elements.{All-nil, All-cons}
 use Rattle.std.proofs.lemmas.List.Folds.{list_all-append}
 use Rattle.std.proofs.lemmas.Map.Keys.{IsDistinct-push}
-use Rattle.lg_netlist.specs.Names.{is_word, is_continuation, is_between, cleaned_byte, trimmed, or_pin, name_of_label, is_taken, numbered_name, IsFirstFree, IsFreeName, AreNames}
+use Rattle.lg_netlist.specs.Names.{is_word, is_continuation, is_between, cleaned_byte, trimmed, or_pin, name_of_label, is_taken, numbered_name, IsFirstFree, AreNames}
 use Rattle.lg_netlist.specs.Valid.{is_pin_name}
 use Rattle.lg_netlist.proofs.NameLemmas.{one_is_free}
 

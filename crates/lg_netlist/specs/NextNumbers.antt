@@ -1,5 +1,5 @@
 -- What is known of taken names: for each the next number worth trying.
-use Rattle.std.specs.Prelude.{◌≡◌, ℕ, ◌+◌, ◌<◌, ◌≤◌, Bool, true, false, List, length, Option, Some, is_some}
+use Rattle.std.specs.Prelude.{◌≡◌, ℕ, ◌+◌, ◌<◌, ◌≤◌, true, false, List, length, Option, Some, is_some}
 use Rattle.lg_netlist.specs.Names.{is_taken, numbered_name}
 
 -- the numbers before this one are taken for the name

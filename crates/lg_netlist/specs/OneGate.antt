@@ -1,6 +1,6 @@
 -- One-gate circuits: each gate reads input pins alone, so that no chain has two gates.
 -- Source: the Logisim-evolution user guide, Wire values (drivers of a net).
-use Rattle.std.specs.Prelude.{ℕ, ◌==◌, Bool, true, false, not, ◌&&◌, ◌||◌, List, [], ◌∷◌, ◌++◌, length, map, filter, is_none}
+use Rattle.std.specs.Prelude.{ℕ, ◌==◌, Bool, true, false, not, ◌&&◌, ◌||◌, List, [], ◌∷◌, ◌++◌, length, filter, is_none}
 use Rattle.std.specs.List.{list_all, list_any, flat_map}
 use Rattle.lg_netlist.specs.declared.netlist.PartUse.{PartUse}
 use Rattle.lg_netlist.specs.declared.netlist.PinUse.{PinUse}

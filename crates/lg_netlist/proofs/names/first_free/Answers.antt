@@ -1,5 +1,5 @@
 -- Among more numbered names than are taken one is free.
-use Rattle.std.proofs.Common.{◌≡◌, ℕ, List, true, false, not, is_some, ap, sym, ◌∙◌, arith}
+use Rattle.std.proofs.Common.{◌≡◌, ℕ, List, true, false, is_some, sym, ◌∙◌, arith}
 use Rattle.std.specs.BTreeMap.{get_by_text}
 use Rattle.lg_netlist.proofs.NameLemmas.{one_is_free}
 use Rattle.lg_netlist.proofs.NextLemmas.{IsFirstFreeNumber-here, before_more}

@@ -1,12 +1,11 @@
 -- A name that has no next number is free.
-use Rattle.std.proofs.Common.{◌≡◌, ℕ, ◌+◌, ◌∷◌, ◌++◌, [], List, Option, Some, None, Bool, true, false, is_some, IfOk, ap, sym, subst, ◌∙◌, rules}
+use Rattle.std.proofs.Common.{◌≡◌, ℕ, List, Some, None, true, false, is_some, ap, sym, subst, ◌∙◌}
 use Rattle.std.specs.BTreeMap.{get_by_text}
 use Rattle.std.specs.Map.{update}
-use Rattle.std.specs.Prelude.{string_bytes, MatchBool, option_map, Ok, Err, Result}
+use Rattle.std.specs.Prelude.{string_bytes}
 use Rattle.std.specs.Str.{bytes_eq}
 use Rattle.std.proofs.lemmas.Map.Text.{btree_map_updates_text}
-use Rattle.lg_netlist.specs.Names.{is_taken, IsFirstFree, IsFreeName}
-use Rattle.lg_netlist.specs.NextNumbers.{IsTriedTo}
+use Rattle.lg_netlist.specs.Names.{is_taken}
 use Rattle.lg_netlist.proofs.NextLemmas.{KnowsTaken-more, IsFreeName-first, IsFreeName-itself}
 use Rattle.lg_netlist.proofs.names.free_name.Goals as goal
 

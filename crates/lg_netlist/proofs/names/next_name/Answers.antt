@@ -1,12 +1,12 @@
 -- The name that is found is taken now, and so is each of lesser number.
-use Rattle.std.proofs.Common.{◌≡◌, ℕ, ◌+◌, ◌∷◌, ◌++◌, [], List, Option, Some, true, ap, sym, subst, ◌∙◌}
+use Rattle.std.proofs.Common.{◌≡◌, ℕ, ◌+◌, ◌∷◌, ◌++◌, [], List, Some, ap, sym, subst, ◌∙◌}
 use Rattle.std.specs.BTreeMap.{get_by_text}
 use Rattle.std.specs.Map.{update}
 use Rattle.std.specs.Prelude.{string_bytes}
 use Rattle.std.specs.Str.{bytes_eq}
 use Rattle.std.proofs.lemmas.Map.Text.{btree_map_updates_text}
-use Rattle.lg_netlist.specs.Names.{is_taken, numbered_name}
-use Rattle.lg_netlist.specs.NextNumbers.{IsTriedTo, KnowsTaken, IsFirstFreeNumber}
+use Rattle.lg_netlist.specs.Names.{numbered_name}
+use Rattle.lg_netlist.specs.NextNumbers.{IsTriedTo, IsFirstFreeNumber}
 use Rattle.lg_netlist.proofs.NextLemmas.{KnowsTaken-more, KnowsTaken-set, IsTriedTo-next, still_taken}
 use Rattle.lg_netlist.proofs.names.next_name.Goals as goal
 

@@ -1,5 +1,5 @@
 -- The names of the labels so far, and one more.
-use Rattle.std.proofs.Common.{◌≡◌, [], ◌∷◌, ◌++◌, ◌+◌, take, length, sym, ap, subst, ◌∙◌, List, ℕ, arith}
+use Rattle.std.proofs.Common.{◌≡◌, [], ◌∷◌, ◌++◌, take, ap, subst, ◌∙◌, List, ℕ, arith}
 use Rattle.std.specs.BTreeMap.{get_by_text}
 use Rattle.std.proofs.lemmas.List.{take_more, take_all}
 use Rattle.lg_netlist.specs.Names.{IsFreeName, name_of_label, AreNames}

@@ -1,9 +1,9 @@
 -- Each turn numbers one label more.
-use Rattle.std.proofs.Common.{◌≡◌, ℕ, ◌+◌, ◌<◌, ◌≤◌, ◌++◌, List, length, get_or, take, drop, Option, None, sym, ap, subst, ◌∙◌, arith}
+use Rattle.std.proofs.Common.{◌≡◌, ℕ, ◌<◌, ◌++◌, List, length, get_or, take, drop, Option, subst, arith}
 use Rattle.std.proofs.lemmas.List.{take_at}
 use Rattle.std.proofs.lemmas.List.Elements.{All-get_or}
 use Rattle.lg_netlist.specs.Numbering.{NumbersNext}
-use Rattle.lg_netlist.proofs.NumberingLemmas.{Counts, AreNumbered, AreNumbered-start, AreNumbered-more, IsNumbering-from_all}
+use Rattle.lg_netlist.proofs.NumberingLemmas.{Counts, AreNumbered, AreNumbered-more, IsNumbering-from_all}
 use Rattle.lg_netlist.proofs.numbering.numbered.Goals as goal
 use Rattle.lg_netlist.proofs.numbering.numbered.Goals.{then-number-count, else-number-count}
 

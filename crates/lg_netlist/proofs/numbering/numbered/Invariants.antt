@@ -1,4 +1,3 @@
-use Rattle.std.proofs.Common.{take}
 use Rattle.lg_netlist.proofs.NumberingLemmas.{AreNumbered}
 use Rattle.lg_netlist.proofs.numbering.numbered.Given as goal
 
