@@ -4,7 +4,7 @@ use Rattle.lg_circ.specs.declared.project.Project.{Project}
 use Rattle.lg_export.specs.Agreement.{Agrees}
 use Rattle.lg_verilog.specs.declared.module.Module.{Module}
 use Rattle.lg_verilog.specs.Printed.{module_text}
-use Rattle.lg.specs.OneSheet.{HasOneNot}
+use Rattle.lg.specs.OneSheet.{IsBuilt}
 use Rattle.lg.proofs.export.module_text.Goals as goal
 
 pub returns-in-Err-NotBuilt : goal.returns-in-Err-NotBuilt
@@ -17,7 +17,7 @@ returns-in-Err-NotBuilt-one_sheet c = (
   c.in-Ok.ensures.within,
   λ text t.
       let same : c.in-Ok.project ≡ t.project = c.in-Ok.ensures.only t.project t.says c.in-Ok.ensures.within in
-      c.in-Err-NotBuilt-one_sheet.ensures.not_built (cc) t.built.sheet t.built.roles (subst (λ (p : Project). HasOneNot p t.built.sheet t.built.roles) (sym same) t.built.circuit),
+      c.in-Err-NotBuilt-one_sheet.ensures.not_built (cc) t.netlist (subst (λ (p : Project). IsBuilt p t.netlist) (sym same) t.built),
 )
 
 pub returns-in-Ok-print : goal.returns-in-Ok-print
