@@ -46,11 +46,16 @@ Contains-node first (v ∷ ws) (suc i) w e =
     subst (λ (k : ℕ). Contains (nodes_from first (v ∷ ws)) (node_of k w)) same (suc h.0, omega (arith, h.1), h.2)
 
 -- a ray that leads to the right along its row reaches its other end, and any other itself
-reach_cases : (w : Wire) → ((w.from.y ≡ w.to.y) × (w.from.x <ℤ w.to.x) × (reach_of w ≡ w.to.x)) ⊎ (((w.from.y ≡ w.to.y) → w.to.x ≤ℤ w.from.x) × (reach_of w ≡ w.from.x))
+abbrev ReachCases : Wire → Type 0
+ReachCases w =
+    ((w.from.y ≡ w.to.y) × (w.from.x <ℤ w.to.x) × (reach_of w ≡ w.to.x))
+    ⊎ (((w.from.y ≡ w.to.y) → w.to.x ≤ℤ w.from.x) × (reach_of w ≡ w.from.x))
+
+reach_cases : (w : Wire) → ReachCases w
 reach_cases w = by_tests (int_eq w.from.y w.to.y) (int_lt w.from.x w.to.x) refl refl
   where
     by_tests : (b l : Bool) → int_eq w.from.y w.to.y ≡ b → int_lt w.from.x w.to.x ≡ l
-        → ((w.from.y ≡ w.to.y) × (w.from.x <ℤ w.to.x) × (reach_of w ≡ w.to.x)) ⊎ (((w.from.y ≡ w.to.y) → w.to.x ≤ℤ w.from.x) × (reach_of w ≡ w.from.x))
+        → ReachCases w
     by_tests true true e f = inl (
       (Decides-int_eq w.from.y w.to.y).0 e,
       lt_from w.from.x w.to.x f,
@@ -68,7 +73,7 @@ reach_cases w = by_tests (int_eq w.from.y w.to.y) (int_lt w.from.x w.to.x) refl 
 reaches_itself : (w : Wire) → w.from.x ≤ℤ reach_of w
 reaches_itself w = by_case (reach_cases w)
   where
-    by_case : ((w.from.y ≡ w.to.y) × (w.from.x <ℤ w.to.x) × (reach_of w ≡ w.to.x)) ⊎ (((w.from.y ≡ w.to.y) → w.to.x ≤ℤ w.from.x) × (reach_of w ≡ w.from.x)) → w.from.x ≤ℤ reach_of w
+    by_case : ReachCases w → w.from.x ≤ℤ reach_of w
     by_case (inl h) = let less = h.1 in rw h.2 (omega (arith, ints))
     by_case (inr h) = rw h.1 (omega (arith, ints))
 
@@ -76,7 +81,7 @@ reaches_itself w = by_case (reach_cases w)
 reaches_end : (w : Wire) (p : Point) → LiesAlong w p → w.to.x ≤ℤ reach_of w
 reaches_end w p l = by_case (reach_cases w)
   where
-    by_case : ((w.from.y ≡ w.to.y) × (w.from.x <ℤ w.to.x) × (reach_of w ≡ w.to.x)) ⊎ (((w.from.y ≡ w.to.y) → w.to.x ≤ℤ w.from.x) × (reach_of w ≡ w.from.x)) → w.to.x ≤ℤ reach_of w
+    by_case : ReachCases w → w.to.x ≤ℤ reach_of w
     by_case (inl h) = rw h.2 (omega (arith, ints))
     by_case (inr h) = rw h.1 (h.0 l.level)
 
@@ -102,7 +107,7 @@ touch_from : (rays : List Wire) (u v w : Wire) → Contains rays w → u.from.y 
     → u.from.x ≤ℤ v.from.x → v.from.x ≤ℤ reach_of w → Touch rays u.from v.from
 touch_from rays u v w has row other after between within = by_case (reach_cases w)
   where
-    by_case : ((w.from.y ≡ w.to.y) × (w.from.x <ℤ w.to.x) × (reach_of w ≡ w.to.x)) ⊎ (((w.from.y ≡ w.to.y) → w.to.x ≤ℤ w.from.x) × (reach_of w ≡ w.from.x)) → Touch rays u.from v.from
+    by_case : ReachCases w → Touch rays u.from v.from
     by_case (inl h) =
         let near : v.from.x ≤ℤ w.to.x = rw (sym h.2) within in
         inr (w, has, record { level = h.0; row = row; after = after; before = omega (arith, ints) }, record { level = h.0; row = other; after = omega (arith, ints); before = near })
