@@ -7,7 +7,7 @@ use Rattle.lg_circ.specs.declared.project.Wire.{Wire}
 use Rattle.lg_nets.specs.Joined.{IsBetween, LiesOn}
 use Rattle.lg_nets.specs.Rays.{dot, reversed, rays, over, turned_over}
 use Rattle.lg_nets.specs.Rows.{LiesAlong, Touch, TouchAt}
-use Rattle.lg_nets.proofs.NodeLemmas.{one_point}
+use Rattle.lg_nets.proofs.LabelLemmas.{one_point}
 use Rattle.lg_nets.proofs.RayLemmas.{made_at, map_at, made_contained, map_contained, RayCases, rays_cases, rays_wire, rays_reversed, rays_over, IsAt}
 
 -- the points are one, or lie on one wire

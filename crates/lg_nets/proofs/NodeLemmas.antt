@@ -14,6 +14,7 @@ use Rattle.lg_nets.specs.declared.components.Link.{Link}
 use Rattle.lg_nets.specs.declared.rows.Node.{Node}
 use Rattle.lg_nets.specs.Links.{Chained}
 use Rattle.lg_nets.specs.Rows.{LiesAlong, Touch, TouchAt, AreRowLinks, reach_of, node_of, nodes_from, links_of}
+use Rattle.lg_nets.proofs.LabelLemmas.{one_point}
 use Rattle.lg_nets.proofs.ChainLemmas.{Chained-sym, Chained-trans}
 use Rattle.lg_nets.proofs.OrderLemmas.{InOrder}
 use Rattle.lg_nets.proofs.RowLemmas.{meets, Spanned, Spanned-all, lt_from, ge_from, Contains-cases}
@@ -86,15 +87,6 @@ reaches_end w p l = by_case (reach_cases w)
     by_case (inr h) = rw h.1 (h.0 l.level)
 
 -- ---- the links of a row
-
-abbrev point : ℤ → ℤ → Point
-point x y = record { x = x; y = y }
-
-both_same : (x y x' y' : ℤ) → x ≡ x' → y ≡ y' → point x y ≡ point x' y'
-both_same x y x' y' e f = cc
-
-pub one_point : (p q : Point) → p.x ≡ q.x → p.y ≡ q.y → p ≡ q
-one_point p q e f = both_same p.x p.y q.x q.y e f
 
 pub Contains-at : (rays : List Wire) (k : ℕ) (w : Wire) → slice_get rays k ≡ Some w → Contains rays w
 Contains-at rays k w e = (k, slice_get_within rays k w e, get_or_from_slice_get rays k w w e)
