@@ -1,5 +1,5 @@
 -- A forest that the links so far made, and the classes that it gives.
-use Rattle.std.proofs.Common.{◌≡◌, ℕ, ◌+◌, ◌<◌, ◌≤◌, ◌≢◌, ◌⊎◌, List, length, get_or, min, max, Some, refl, sym, ap, subst, ◌∙◌, arith, inl, inr, below_more}
+use Rattle.std.proofs.Common.{◌≡◌, ℕ, ◌+◌, ◌<◌, ◌≤◌, ◌⊎◌, List, length, get_or, Some, refl, sym, ap, subst, ◌∙◌, arith, inl, inr, below_more}
 use Rattle.std.specs.Prelude.{Contains, slice_get}
 use Rattle.std.proofs.lemmas.Bool.{cases_lt}
 use Rattle.std.proofs.lemmas.Option.{same_Some, slice_get-get_or}
@@ -7,7 +7,7 @@ use Rattle.lg_nets.specs.declared.components.Link.{Link}
 use Rattle.lg_nets.specs.Links.{Chained, AreClasses}
 use Rattle.lg_nets.specs.Forest.{Represents, merged}
 use Rattle.lg_nets.proofs.ChainLemmas.{Chained-refl, Chained-same, Chained-link, Chained-trans, Chained-sym}
-use Rattle.lg_nets.proofs.ForestLemmas.{merged_cases, merged_same}
+use Rattle.lg_nets.proofs.ForestLemmas.{MergedCases, merged_cases, merged_same}
 
 -- a choice that the parents represent: the first links join one class each, and links chain each number to its choice
 pub record IsForest (links : List Link) (done : ℕ) (parents : List ℕ) : Type 0 where
@@ -37,7 +37,7 @@ merged_chained links rep link has chained i = by_case (merged_cases rep link.fro
     on : (n : ℕ) → Chained links (rep i) n → merged rep link.from link.to i ≡ n → Chained links i (merged rep link.from link.to i)
     on n c e = subst (Chained links i) (sym e) (Chained-trans links i (rep i) n (chained i) c)
 
-    by_case : ((rep i ≡ max (rep link.from) (rep link.to)) × (merged rep link.from link.to i ≡ min (rep link.from) (rep link.to))) ⊎ ((rep i ≢ max (rep link.from) (rep link.to)) × (merged rep link.from link.to i ≡ rep i))
+    by_case : MergedCases rep link.from link.to i
         → (rep link.from < rep link.to) ⊎ (rep link.to ≤ rep link.from) → Chained links i (merged rep link.from link.to i)
     by_case (inr h) order = on (rep i) (Chained-refl links (rep i)) h.1
     by_case (inl h) (inl less) =
@@ -53,8 +53,8 @@ merged_chained links rep link has chained i = by_case (merged_cases rep link.fro
 merged_link : (rep : ℕ → ℕ) (a b : ℕ) → merged rep a b a ≡ merged rep a b b
 merged_link rep a b = by_case (merged_cases rep a b a) (merged_cases rep a b b)
   where
-    by_case : ((rep a ≡ max (rep a) (rep b)) × (merged rep a b a ≡ min (rep a) (rep b))) ⊎ ((rep a ≢ max (rep a) (rep b)) × (merged rep a b a ≡ rep a))
-        → ((rep b ≡ max (rep a) (rep b)) × (merged rep a b b ≡ min (rep a) (rep b))) ⊎ ((rep b ≢ max (rep a) (rep b)) × (merged rep a b b ≡ rep b)) → merged rep a b a ≡ merged rep a b b
+    by_case : MergedCases rep a b a
+        → MergedCases rep a b b → merged rep a b a ≡ merged rep a b b
     by_case (inl g) (inl h) = g.1 ∙ sym h.1
     by_case (inl g) (inr h) = let e = g.0 in let f = g.1 in let i = h.0 in let j = h.1 in omega arith
     by_case (inr g) (inl h) = let e = g.0 in let f = g.1 in let i = h.0 in let j = h.1 in omega arith

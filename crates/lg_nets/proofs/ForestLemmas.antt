@@ -34,10 +34,15 @@ up_low xs at inside d ne = let down = d.down at inside in let again = d.down (ge
 -- ---- two classes made one
 
 -- the merged choice: of a class that is the greater it is the lesser, and of the others as it was
-pub merged_cases : (rep : ℕ → ℕ) (a b k : ℕ) → ((rep k ≡ max (rep a) (rep b)) × (merged rep a b k ≡ min (rep a) (rep b))) ⊎ ((rep k ≢ max (rep a) (rep b)) × (merged rep a b k ≡ rep k))
+abbrev pub MergedCases : (ℕ → ℕ) → ℕ → ℕ → ℕ → Type 0
+MergedCases rep a b k =
+    ((rep k ≡ max (rep a) (rep b)) × (merged rep a b k ≡ min (rep a) (rep b)))
+    ⊎ ((rep k ≢ max (rep a) (rep b)) × (merged rep a b k ≡ rep k))
+
+pub merged_cases : (rep : ℕ → ℕ) (a b k : ℕ) → MergedCases rep a b k
 merged_cases rep a b k = by_case (cases_eq (rep k) (max (rep a) (rep b)))
   where
-    by_case : (rep k ≡ max (rep a) (rep b)) ⊎ (rep k ≡ max (rep a) (rep b) → ⊥) → ((rep k ≡ max (rep a) (rep b)) × (merged rep a b k ≡ min (rep a) (rep b))) ⊎ ((rep k ≢ max (rep a) (rep b)) × (merged rep a b k ≡ rep k))
+    by_case : (rep k ≡ max (rep a) (rep b)) ⊎ (rep k ≡ max (rep a) (rep b) → ⊥) → MergedCases rep a b k
     by_case (inl e) = inl (e, cond-true (eqb (rep k) (max (rep a) (rep b))) (min (rep a) (rep b)) (rep k) (eq-eqb (rep k) (max (rep a) (rep b)) e))
     by_case (inr ne) = inr (ne, cond-false (eqb (rep k) (max (rep a) (rep b))) (min (rep a) (rep b)) (rep k) (ne_eqb (rep k) (max (rep a) (rep b)) ne))
 
@@ -56,18 +61,18 @@ Represents-merged rep xs a b low high inside is_low is_high low_root high_root r
   low = λ i. no_greater i (r.low i) (merged_cases rep a b i);
 }
   where
-    at_low : ((rep low ≡ max (rep a) (rep b)) × (merged rep a b low ≡ min (rep a) (rep b))) ⊎ ((rep low ≢ max (rep a) (rep b)) × (merged rep a b low ≡ rep low)) → merged rep a b low ≡ low
+    at_low : MergedCases rep a b low → merged rep a b low ≡ low
     at_low (inl h) = h.1 ∙ sym is_low
     at_low (inr h) = h.1 ∙ low_root
 
-    at_high : ((rep high ≡ max (rep a) (rep b)) × (merged rep a b high ≡ min (rep a) (rep b))) ⊎ ((rep high ≢ max (rep a) (rep b)) × (merged rep a b high ≡ rep high)) → merged rep a b high ≡ low
+    at_high : MergedCases rep a b high → merged rep a b high ≡ low
     at_high (inl h) = h.1 ∙ sym is_low
     at_high (inr h) = absurd (h.0 (high_root ∙ is_high))
 
-    at_other : (i : ℕ) → i ≢ high → rep i ≡ i → ((rep i ≡ max (rep a) (rep b)) × (merged rep a b i ≡ min (rep a) (rep b))) ⊎ ((rep i ≢ max (rep a) (rep b)) × (merged rep a b i ≡ rep i)) → merged rep a b i ≡ i
+    at_other : (i : ℕ) → i ≢ high → rep i ≡ i → MergedCases rep a b i → merged rep a b i ≡ i
     at_other i ne root (inl h) = absurd (ne (sym root ∙ (h.0 ∙ sym is_high)))
     at_other i ne root (inr h) = h.1 ∙ root
 
-    no_greater : (i : ℕ) → rep i ≤ i → ((rep i ≡ max (rep a) (rep b)) × (merged rep a b i ≡ min (rep a) (rep b))) ⊎ ((rep i ≢ max (rep a) (rep b)) × (merged rep a b i ≡ rep i)) → merged rep a b i ≤ i
+    no_greater : (i : ℕ) → rep i ≤ i → MergedCases rep a b i → merged rep a b i ≤ i
     no_greater i h (inl e) = let f = e.0 in rw e.1 (omega arith)
     no_greater i h (inr e) = rw e.1 h

@@ -1,3 +1,4 @@
+pub mod LabelLemmas
 pub mod ForestLemmas
 pub mod OrderLemmas
 pub mod ChainLemmas

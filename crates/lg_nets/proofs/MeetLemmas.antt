@@ -7,8 +7,8 @@ use Rattle.lg_circ.specs.declared.project.Wire.{Wire}
 use Rattle.lg_nets.specs.Joined.{IsBetween, LiesOn}
 use Rattle.lg_nets.specs.Rays.{dot, reversed, rays, over, turned_over}
 use Rattle.lg_nets.specs.Rows.{LiesAlong, Touch, TouchAt}
-use Rattle.lg_nets.proofs.NodeLemmas.{one_point}
-use Rattle.lg_nets.proofs.RayLemmas.{made_at, map_at, made_contained, map_contained, rays_cases, rays_wire, rays_reversed, rays_over, IsAt}
+use Rattle.lg_nets.proofs.LabelLemmas.{one_point}
+use Rattle.lg_nets.proofs.RayLemmas.{made_at, map_at, made_contained, map_contained, RayCases, rays_cases, rays_wire, rays_reversed, rays_over, IsAt}
 
 -- the points are one, or lie on one wire
 abbrev pub Meet : List Wire → Point → Point → Type 0
@@ -57,7 +57,7 @@ meet_from : (wires : List Wire) (ports : List Point) (p q : Point) → Touch (ra
 meet_from wires ports p q (inl e) = inl e
 meet_from wires ports p q (inr (w, h, a, b)) = by_ray (rays_cases wires ports w h)
   where
-    by_ray : ((r : Point) × Contains ports r × (dot r ≡ w)) ⊎ (Contains wires w ⊎ ((v : Wire) × Contains wires v × (reversed v ≡ w))) → Meet wires p q
+    by_ray : RayCases wires ports w → Meet wires p q
     by_ray (inl (r, k, e)) = inl (at_dot r p (subst (λ (v : Wire). LiesAlong v p) (sym e) a) ∙ sym (at_dot r q (subst (λ (v : Wire). LiesAlong v q) (sym e) b)))
     by_ray (inr (inl k)) = inr (w, k, inl (level_from w p a), inl (level_from w q b))
     by_ray (inr (inr (v, k, e))) = inr (v, k, inl (level_back v p (subst (λ (u : Wire). LiesAlong u p) (sym e) a)), inl (level_back v q (subst (λ (u : Wire). LiesAlong u q) (sym e) b)))

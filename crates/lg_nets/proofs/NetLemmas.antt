@@ -168,10 +168,14 @@ straight_from : (w : Wire) (p : Point) → LiesOn w p → IsTrue (is_straight w)
 straight_from w p (inl h) = or_right (int_eq w.from.x w.to.x) (int_eq w.from.y w.to.y) ((Decides-int_eq w.from.y w.to.y).1 h.0)
 straight_from w p (inr h) = or_left (int_eq w.from.x w.to.x) (int_eq w.from.y w.to.y) ((Decides-int_eq w.from.x w.to.x).1 h.0)
 
+-- a port or a wire shares the label
+abbrev Shares : List Wire → List Point → List ℕ → ℕ → Type 0
+Shares wires ports labels label = PortShares labels (length ports) label ⊎ WireShares wires (drop (length ports) labels) (length wires) label
+
 -- what shares a port's label is attached to it
 attached_from : (wires : List Wire) (ports : List Point) (links : List Link) (count : ℕ) (labels : List ℕ) (i : ℕ) (p : Point) → AreNetLinks wires ports links → AreClasses links count labels
     → length ports + length wires ≤ count → slice_get ports i ≡ Some p
-    → PortShares labels (length ports) (get_or labels i 0) ⊎ WireShares wires (drop (length ports) labels) (length wires) (get_or labels i 0) → IsAttached wires ports i p
+    → Shares wires ports labels (get_or labels i 0) → IsAttached wires ports i p
 attached_from wires ports links count labels i p n c long at_i = by_share
   where
     within : i < length ports
@@ -194,7 +198,7 @@ attached_from wires ports links count labels i p n c long at_i = by_share
         by_point (inl e) = inl (w, (k, less, get_or_from_slice_get wires k w w at_k), subst (LiesOn w) e (straight_end w t))
         by_point (inr w) = inl w
 
-    by_share : PortShares labels (length ports) (get_or labels i 0) ⊎ WireShares wires (drop (length ports) labels) (length wires) (get_or labels i 0) → IsAttached wires ports i p
+    by_share : Shares wires ports labels (get_or labels i 0) → IsAttached wires ports i p
     by_share (inl (j, less, e, ne)) = by_case (cases_eq j i)
       where
         by_case : (j ≡ i) ⊎ (j ≡ i → ⊥) → IsAttached wires ports i p
@@ -206,7 +210,7 @@ attached_from wires ports links count labels i p n c long at_i = by_share
 -- and what is attached to a port shares its label
 shares_from : (wires : List Wire) (ports : List Point) (links : List Link) (count : ℕ) (labels : List ℕ) (i : ℕ) (p : Point) → AreNetLinks wires ports links → AreClasses links count labels
     → length ports + length wires ≤ count → slice_get ports i ≡ Some p → IsAttached wires ports i p
-    → PortShares labels (length ports) (get_or labels i 0) ⊎ WireShares wires (drop (length ports) labels) (length wires) (get_or labels i 0)
+    → Shares wires ports labels (get_or labels i 0)
 shares_from wires ports links count labels i p n c long at_i (inl (w, h, l)) =
     let k = h.0 in
     let at_k : slice_get wires k ≡ Some w = slice_get-get_or wires k w h.1 ∙ ap (λ (v : Wire). Some v) h.2 in
@@ -218,7 +222,7 @@ shares_from wires ports links count labels i p n c long at_i (inr (j, ne, at_j))
     same : get_or labels j 0 ≡ get_or labels i 0
     same = same_label links count labels j i c (n.complete j i p p (IsAt-port wires ports j p at_j) (IsAt-port wires ports i p at_i) (inl refl))
 
-    by_case : (j ≡ get_or labels i 0) ⊎ (j ≡ get_or labels i 0 → ⊥) → PortShares labels (length ports) (get_or labels i 0) ⊎ WireShares wires (drop (length ports) labels) (length wires) (get_or labels i 0)
+    by_case : (j ≡ get_or labels i 0) ⊎ (j ≡ get_or labels i 0 → ⊥) → Shares wires ports labels (get_or labels i 0)
     by_case (inr other) = inl (j, slice_get_within ports j p at_j, same, other)
     by_case (inl e) = inl (i, slice_get_within ports i p at_i, refl, λ f. ne (e ∙ sym f))
 

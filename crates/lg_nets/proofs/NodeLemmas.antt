@@ -14,6 +14,7 @@ use Rattle.lg_nets.specs.declared.components.Link.{Link}
 use Rattle.lg_nets.specs.declared.rows.Node.{Node}
 use Rattle.lg_nets.specs.Links.{Chained}
 use Rattle.lg_nets.specs.Rows.{LiesAlong, Touch, TouchAt, AreRowLinks, reach_of, node_of, nodes_from, links_of}
+use Rattle.lg_nets.proofs.LabelLemmas.{one_point}
 use Rattle.lg_nets.proofs.ChainLemmas.{Chained-sym, Chained-trans}
 use Rattle.lg_nets.proofs.OrderLemmas.{InOrder}
 use Rattle.lg_nets.proofs.RowLemmas.{meets, Spanned, Spanned-all, lt_from, ge_from, Contains-cases}
@@ -46,11 +47,16 @@ Contains-node first (v ∷ ws) (suc i) w e =
     subst (λ (k : ℕ). Contains (nodes_from first (v ∷ ws)) (node_of k w)) same (suc h.0, omega (arith, h.1), h.2)
 
 -- a ray that leads to the right along its row reaches its other end, and any other itself
-reach_cases : (w : Wire) → ((w.from.y ≡ w.to.y) × (w.from.x <ℤ w.to.x) × (reach_of w ≡ w.to.x)) ⊎ (((w.from.y ≡ w.to.y) → w.to.x ≤ℤ w.from.x) × (reach_of w ≡ w.from.x))
+abbrev ReachCases : Wire → Type 0
+ReachCases w =
+    ((w.from.y ≡ w.to.y) × (w.from.x <ℤ w.to.x) × (reach_of w ≡ w.to.x))
+    ⊎ (((w.from.y ≡ w.to.y) → w.to.x ≤ℤ w.from.x) × (reach_of w ≡ w.from.x))
+
+reach_cases : (w : Wire) → ReachCases w
 reach_cases w = by_tests (int_eq w.from.y w.to.y) (int_lt w.from.x w.to.x) refl refl
   where
     by_tests : (b l : Bool) → int_eq w.from.y w.to.y ≡ b → int_lt w.from.x w.to.x ≡ l
-        → ((w.from.y ≡ w.to.y) × (w.from.x <ℤ w.to.x) × (reach_of w ≡ w.to.x)) ⊎ (((w.from.y ≡ w.to.y) → w.to.x ≤ℤ w.from.x) × (reach_of w ≡ w.from.x))
+        → ReachCases w
     by_tests true true e f = inl (
       (Decides-int_eq w.from.y w.to.y).0 e,
       lt_from w.from.x w.to.x f,
@@ -68,7 +74,7 @@ reach_cases w = by_tests (int_eq w.from.y w.to.y) (int_lt w.from.x w.to.x) refl 
 reaches_itself : (w : Wire) → w.from.x ≤ℤ reach_of w
 reaches_itself w = by_case (reach_cases w)
   where
-    by_case : ((w.from.y ≡ w.to.y) × (w.from.x <ℤ w.to.x) × (reach_of w ≡ w.to.x)) ⊎ (((w.from.y ≡ w.to.y) → w.to.x ≤ℤ w.from.x) × (reach_of w ≡ w.from.x)) → w.from.x ≤ℤ reach_of w
+    by_case : ReachCases w → w.from.x ≤ℤ reach_of w
     by_case (inl h) = let less = h.1 in rw h.2 (omega (arith, ints))
     by_case (inr h) = rw h.1 (omega (arith, ints))
 
@@ -76,20 +82,11 @@ reaches_itself w = by_case (reach_cases w)
 reaches_end : (w : Wire) (p : Point) → LiesAlong w p → w.to.x ≤ℤ reach_of w
 reaches_end w p l = by_case (reach_cases w)
   where
-    by_case : ((w.from.y ≡ w.to.y) × (w.from.x <ℤ w.to.x) × (reach_of w ≡ w.to.x)) ⊎ (((w.from.y ≡ w.to.y) → w.to.x ≤ℤ w.from.x) × (reach_of w ≡ w.from.x)) → w.to.x ≤ℤ reach_of w
+    by_case : ReachCases w → w.to.x ≤ℤ reach_of w
     by_case (inl h) = rw h.2 (omega (arith, ints))
     by_case (inr h) = rw h.1 (h.0 l.level)
 
 -- ---- the links of a row
-
-abbrev point : ℤ → ℤ → Point
-point x y = record { x = x; y = y }
-
-both_same : (x y x' y' : ℤ) → x ≡ x' → y ≡ y' → point x y ≡ point x' y'
-both_same x y x' y' e f = cc
-
-pub one_point : (p q : Point) → p.x ≡ q.x → p.y ≡ q.y → p ≡ q
-one_point p q e f = both_same p.x p.y q.x q.y e f
 
 pub Contains-at : (rays : List Wire) (k : ℕ) (w : Wire) → slice_get rays k ≡ Some w → Contains rays w
 Contains-at rays k w e = (k, slice_get_within rays k w e, get_or_from_slice_get rays k w w e)
@@ -102,7 +99,7 @@ touch_from : (rays : List Wire) (u v w : Wire) → Contains rays w → u.from.y 
     → u.from.x ≤ℤ v.from.x → v.from.x ≤ℤ reach_of w → Touch rays u.from v.from
 touch_from rays u v w has row other after between within = by_case (reach_cases w)
   where
-    by_case : ((w.from.y ≡ w.to.y) × (w.from.x <ℤ w.to.x) × (reach_of w ≡ w.to.x)) ⊎ (((w.from.y ≡ w.to.y) → w.to.x ≤ℤ w.from.x) × (reach_of w ≡ w.from.x)) → Touch rays u.from v.from
+    by_case : ReachCases w → Touch rays u.from v.from
     by_case (inl h) =
         let near : v.from.x ≤ℤ w.to.x = rw (sym h.2) within in
         inr (w, has, record { level = h.0; row = row; after = after; before = omega (arith, ints) }, record { level = h.0; row = other; after = omega (arith, ints); before = near })

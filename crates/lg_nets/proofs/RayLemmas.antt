@@ -49,16 +49,19 @@ map_contained f (y ∷ xs) x (suc k, less, e) = let m = map_contained f xs x (k,
 -- ---- the rays
 
 -- rays are the dots of ports, wires, and wires seen from their other ends
+abbrev pub RayCases : List Wire → List Point → Wire → Type 0
+RayCases wires ports w = ((p : Point) × Contains ports p × (dot p ≡ w)) ⊎ (Contains wires w ⊎ ((v : Wire) × Contains wires v × (reversed v ≡ w)))
+
 pub rays_cases : (wires : List Wire) (ports : List Point) (w : Wire) → Contains (rays wires ports) w
-    → ((p : Point) × Contains ports p × (dot p ≡ w)) ⊎ (Contains wires w ⊎ ((v : Wire) × Contains wires v × (reversed v ≡ w)))
+    → RayCases wires ports w
 unfolding rays
 rays_cases wires ports w h = by_outer (Contains-append_cases (map dot ports ++ wires) (map reversed wires) w h)
   where
-    by_inner : Contains (map dot ports) w ⊎ Contains wires w → ((p : Point) × Contains ports p × (dot p ≡ w)) ⊎ (Contains wires w ⊎ ((v : Wire) × Contains wires v × (reversed v ≡ w)))
+    by_inner : Contains (map dot ports) w ⊎ Contains wires w → RayCases wires ports w
     by_inner (inl k) = inl (made_contained dot ports w k)
     by_inner (inr k) = inr (inl k)
 
-    by_outer : Contains (map dot ports ++ wires) w ⊎ Contains (map reversed wires) w → ((p : Point) × Contains ports p × (dot p ≡ w)) ⊎ (Contains wires w ⊎ ((v : Wire) × Contains wires v × (reversed v ≡ w)))
+    by_outer : Contains (map dot ports ++ wires) w ⊎ Contains (map reversed wires) w → RayCases wires ports w
     by_outer (inl k) = by_inner (Contains-append_cases (map dot ports) wires w k)
     by_outer (inr k) = inr (inr (made_contained reversed wires w k))
 
@@ -147,7 +150,7 @@ IsAt-node wires ports p (inl h) = let e = ends_cases wires p h in by_end e.0 e.1
 pub IsNode-at : (wires : List Wire) (ports : List Point) (i : ℕ) (p : Point) → IsAt (rays wires ports) i p → IsNode wires ports p
 IsNode-at wires ports i p a = subst (IsNode wires ports) a.from (by_ray (rays_cases wires ports a.ray (Contains-at (rays wires ports) i a.ray a.at)))
   where
-    by_ray : ((q : Point) × Contains ports q × (dot q ≡ a.ray)) ⊎ (Contains wires a.ray ⊎ ((v : Wire) × Contains wires v × (reversed v ≡ a.ray))) → IsNode wires ports a.ray.from
+    by_ray : RayCases wires ports a.ray → IsNode wires ports a.ray.from
     by_ray (inl h) = inr (subst (Contains ports) (ap (λ (w : Wire). w.from) h.2) h.1)
     by_ray (inr (inl h)) = inl (ends_from wires a.ray h).0
     by_ray (inr (inr h)) = inl (subst (Contains (flat_map (λ (v : Wire). v.from ∷ v.to ∷ []) wires)) (ap (λ (w : Wire). w.from) h.2) (ends_from wires h.0 h.1).1)

@@ -42,11 +42,16 @@ goes_on_from last n h =
     ((Decides-int_eq n.across last.across).0 parts.0, le_from n.along last.reach parts.1)
 
 -- the carried reach is that of the node, or that of the row where it goes on and is greater
-reach_cases : (last n : Node) → ((goes_on last n ≡ true) × (n.reach <ℤ last.reach) × ((carried last n).reach ≡ last.reach)) ⊎ (((carried last n).reach ≡ n.reach) × (goes_on last n ≡ true → last.reach ≤ℤ n.reach))
+abbrev ReachCases : Node → Node → Type 0
+ReachCases last n =
+    ((goes_on last n ≡ true) × (n.reach <ℤ last.reach) × ((carried last n).reach ≡ last.reach))
+    ⊎ (((carried last n).reach ≡ n.reach) × (goes_on last n ≡ true → last.reach ≤ℤ n.reach))
+
+reach_cases : (last n : Node) → ReachCases last n
 reach_cases last n = by_goes (goes_on last n) (int_lt n.reach last.reach) refl refl
   where
     by_goes : (b l : Bool) → goes_on last n ≡ b → int_lt n.reach last.reach ≡ l
-        → ((goes_on last n ≡ true) × (n.reach <ℤ last.reach) × ((carried last n).reach ≡ last.reach)) ⊎ (((carried last n).reach ≡ n.reach) × (goes_on last n ≡ true → last.reach ≤ℤ n.reach))
+        → ReachCases last n
     by_goes true true e f = inl (e, lt_from n.reach last.reach f, cond-true (goes_on last n && int_lt n.reach last.reach) last.reach n.reach (and_from (goes_on last n) (int_lt n.reach last.reach) e f))
     by_goes true false e f = inr (cond-false (goes_on last n && int_lt n.reach last.reach) last.reach n.reach (ap (λ b. b && int_lt n.reach last.reach) e ∙ f), λ _. ge_from n.reach last.reach f)
     by_goes false l e f = inr (cond-false (goes_on last n && int_lt n.reach last.reach) last.reach n.reach (ap (λ b. b && int_lt n.reach last.reach) e), λ t. absurd (false≢true (sym e ∙ t)))
@@ -54,14 +59,14 @@ reach_cases last n = by_goes (goes_on last n) (int_lt n.reach last.reach) refl r
 no_less : (last n : Node) → n.reach ≤ℤ (carried last n).reach
 no_less last n = by_case (reach_cases last n)
   where
-    by_case : ((goes_on last n ≡ true) × (n.reach <ℤ last.reach) × ((carried last n).reach ≡ last.reach)) ⊎ (((carried last n).reach ≡ n.reach) × (goes_on last n ≡ true → last.reach ≤ℤ n.reach)) → n.reach ≤ℤ (carried last n).reach
+    by_case : ReachCases last n → n.reach ≤ℤ (carried last n).reach
     by_case (inl h) = rw h.2 (let less = h.1 in omega (arith, ints))
     by_case (inr h) = rw h.0 (omega (arith, ints))
 
 row_no_less : (last n : Node) → goes_on last n ≡ true → last.reach ≤ℤ (carried last n).reach
 row_no_less last n goes = by_case (reach_cases last n)
   where
-    by_case : ((goes_on last n ≡ true) × (n.reach <ℤ last.reach) × ((carried last n).reach ≡ last.reach)) ⊎ (((carried last n).reach ≡ n.reach) × (goes_on last n ≡ true → last.reach ≤ℤ n.reach)) → last.reach ≤ℤ (carried last n).reach
+    by_case : ReachCases last n → last.reach ≤ℤ (carried last n).reach
     by_case (inl h) = rw h.2 (omega (arith, ints))
     by_case (inr h) = rw h.0 (h.1 goes)
 
@@ -224,7 +229,7 @@ Carries-next nodes last n h c up = by_reach (reach_cases last n)
     along g (inl less) = absurd (let e = (goes_on_from last n g).0 in omega (arith, ints))
     along g (inr u) = u.1
 
-    by_reach : ((goes_on last n ≡ true) × (n.reach <ℤ last.reach) × ((carried last n).reach ≡ last.reach)) ⊎ (((carried last n).reach ≡ n.reach) × (goes_on last n ≡ true → last.reach ≤ℤ n.reach)) → Carries nodes (carried last n)
+    by_reach : ReachCases last n → Carries nodes (carried last n)
     by_reach (inl r) = record {
       own = n;
       has_own = h;
@@ -275,16 +280,19 @@ Spanned-link nodes last n h c up g =
     along (inr u) = u.1
 
 -- a link from here is that of a step, or one from the next node on
+abbrev LinkCases : Node → Node → List Node → Link → Type 0
+LinkCases last n ns l = ((goes_on last n ≡ true) × (link last n ≡ l)) ⊎ Contains (links_from (carried last n) ns) l
+
 links_cases : (last n : Node) (ns : List Node) (l : Link) → Contains (links_from last (n ∷ ns)) l
-    → ((goes_on last n ≡ true) × (link last n ≡ l)) ⊎ Contains (links_from (carried last n) ns) l
+    → LinkCases last n ns l
 links_cases last n ns l h = by_goes (cases_Bool (goes_on last n))
   where
     by_link : goes_on last n ≡ true → (k : ℕ) → k < length (link last n ∷ links_from (carried last n) ns) → get_or (link last n ∷ links_from (carried last n) ns) k l ≡ l
-        → ((goes_on last n ≡ true) × (link last n ≡ l)) ⊎ Contains (links_from (carried last n) ns) l
+        → LinkCases last n ns l
     by_link g zero less e = inl (g, e)
     by_link g (suc k) less e = inr (k, omega arith, e)
 
-    by_goes : (goes_on last n ≡ true) ⊎ (goes_on last n ≡ false) → ((goes_on last n ≡ true) × (link last n ≡ l)) ⊎ Contains (links_from (carried last n) ns) l
+    by_goes : (goes_on last n ≡ true) ⊎ (goes_on last n ≡ false) → LinkCases last n ns l
     by_goes (inl g) = let k = subst (λ (ls : List Link). Contains ls l) (links_true last n ns g) h in by_link g k.0 k.1 k.2
     by_goes (inr g) = inr (subst (λ (ls : List Link). Contains ls l) (links_false last n ns g) h)
 
@@ -298,7 +306,7 @@ Spanned-from nodes last (n ∷ ns) keep o c l h =
     (Spanned-from nodes (carried last n) ns (λ m q. keep m (suc q.0, omega (arith, q.1), q.2))
     (InOrder-reach n (carried last n) ns refl refl (InOrder-tail last (n ∷ ns) o)) (Carries-next nodes last n has c up) l)
   where
-    by_case : Contains nodes n → Upto last n → ((goes_on last n ≡ true) × (link last n ≡ l)) ⊎ Contains (links_from (carried last n) ns) l
+    by_case : Contains nodes n → Upto last n → LinkCases last n ns l
         → (Contains (links_from (carried last n) ns) l → Spanned nodes l) → Spanned nodes l
     by_case has up (inl g) rest = subst (Spanned nodes) g.1 (Spanned-link nodes last n has c up g.0)
     by_case has up (inr k) rest = rest k

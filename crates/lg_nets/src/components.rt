@@ -1,6 +1,6 @@
 //! Classes of numbers that links chain together.
 
-ghost use Rattle.std.specs.Prelude.{◌≡◌, ℕ, ◌<◌, ◌≤◌, ◌^◌, ◌+◌, length, IfOk, slice_index, vec_len};
+ghost use Rattle.std.specs.Prelude.{◌≡◌, ℕ, ◌<◌, ◌≤◌, ◌^◌, length, IfOk, slice_index, vec_len};
 ghost use Rattle.std.specs.List.{All};
 ghost use Rattle.lg_nets.specs.Links.{AreClasses};
 ghost use Rattle.lg_nets.specs.Forest.{PointDown, Represents, merged};

@@ -1,6 +1,6 @@
 //! Links between the nodes that lie on level wires.
 
-ghost use Rattle.std.specs.Prelude.{◌≡◌, ◌<◌, ◌^◌, ◌+◌, ◌&&◌, length, IfOk};
+ghost use Rattle.std.specs.Prelude.{◌≡◌, IfOk};
 ghost use Rattle.lg_nets.specs.Rows.{node_of, reach_of, nodes_from, links_of, goes_on, carried, AreRowLinks};
 
 use crate::components::Link;
