@@ -57,7 +57,5 @@ pub fn one_sheet(alloc: Global, project: &Project) -> Result<Netlist, EarlyFault
 fn are_straight(wires: &[Wire]) -> bool
     ensures { result ≡ list_all is_straight wires.now }
 {
-    wires
-        .iter()
-        .all(|wire| wire.from.x == wire.to.x || wire.from.y == wire.to.y)
+    wires.iter().all(|wire| wire.from.x == wire.to.x || wire.from.y == wire.to.y)
 }

@@ -169,8 +169,7 @@ HasOutputs-ordered m numbers o fits bits =
     let all = solved m start m.assigns in
     let inputs : map all (input_names m) ≡ numbers =
     map_agree (input_names m) all start (kept m (input_names m) start m.assigns o.in_order) ∙ given_by-all (input_names m) numbers o.inputs_differ fits in
-    let equations = holds m (input_names m) start m.assigns o.in_order in
-    (
+    let equations = holds m (input_names m) start m.assigns o.in_order in (
       all,
       record {
         within = within_all m (declared m) all (one_bit m (input_names m) m.assigns all o.in_order (at_names (input_names m) all numbers inputs bits) equations) o.all_given;
