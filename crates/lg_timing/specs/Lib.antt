@@ -1,0 +1,4 @@
+pub mod Circuit
+pub mod Instant
+pub mod Settling
+pub mod Session

@@ -1,0 +1,2 @@
+//! Circuits in time: what each net carries at each instant, and when a circuit settles.
+#![tactic(auto)]
