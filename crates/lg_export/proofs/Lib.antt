@@ -11,3 +11,4 @@ pub mod Agreeing
 pub mod PlaceLemmas
 pub mod LaidOut
 pub mod OneNot
+pub mod NetBits

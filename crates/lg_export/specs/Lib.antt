@@ -2,4 +2,5 @@ pub mod Layout
 pub mod Readable
 pub mod Places
 pub mod Agreement
+pub mod InTime
 pub mod OneNot
