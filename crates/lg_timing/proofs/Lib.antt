@@ -1,0 +1,6 @@
+pub mod Timeline
+pub mod Outputs
+pub mod Instants
+pub mod Stretch
+pub mod Counting
+pub mod Outcome

@@ -2,7 +2,6 @@
 use Rattle.std.specs.Prelude.{◌≡◌, ℕ, zero, suc, ◌+◌, ◌-◌, ◌<◌, ◌≤◌, Bool, true, false, not, List, ◌⊎◌, All, if◌then◌else◌}
 use Rattle.std.specs.List.{list_any}
 use Rattle.std.specs.Cmp.Lexicographic.{pointwise}
-use Rattle.lg_value.specs.declared.bit.Bit.{Bit}
 use Rattle.lg_value.specs.Word.{same_word}
 use Rattle.lg_timing.specs.Circuit.{Word, Part, Circuit, Stimulus}
 use Rattle.lg_timing.specs.Instant.{Numbered, numbered_parts, outputs_at}

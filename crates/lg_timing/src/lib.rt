@@ -1,2 +1,6 @@
 //! Circuits in time: what each net carries at each instant, and when a circuit settles.
 #![tactic(auto)]
+
+mod law;
+
+pub use law::settling_is_decided;
