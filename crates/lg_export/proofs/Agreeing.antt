@@ -107,7 +107,7 @@ pins_say pins value = map (λ p. word_on value p.bits) pins
 cons_words : (a b : List Bit) (xs ys : List (List Bit)) → a ≡ b → xs ≡ ys → a ∷ xs ≡ b ∷ ys
 cons_words a b xs ys e f = cc
 
-one_bit_word : (word : List Bit) (bits : List ℕ) (net : ℕ) → bits ≡ single net → length word ≡ length bits → IsDefined word → (b : Bit) × (word ≡ b ∷ []) × IsDefinedBit b
+pub one_bit_word : (word : List Bit) (bits : List ℕ) (net : ℕ) → bits ≡ single net → length word ≡ length bits → IsDefined word → (b : Bit) × (word ≡ b ∷ []) × IsDefinedBit b
 one_bit_word [] bits net e f defined = absurd (omega (arith, ap length e, f))
 one_bit_word (b ∷ []) bits net e f defined = (b, refl, All-head IsDefinedBit b [] defined)
 one_bit_word (b ∷ c ∷ word) bits net e f defined = absurd (omega (arith, ap length e, f))

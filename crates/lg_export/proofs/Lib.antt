@@ -12,3 +12,5 @@ pub mod PlaceLemmas
 pub mod LaidOut
 pub mod OneNot
 pub mod NetBits
+pub mod SettlesSoon
+pub mod Tables

@@ -48,7 +48,7 @@ pub IsDrive-right : (xs ys : List Drive) (net : ℕ) (bit : Bit) → IsDrive ys 
 IsDrive-right [] ys net bit h = h
 IsDrive-right (x ∷ xs) ys net bit h = inr (IsDrive-right xs ys net bit h)
 
-pick-append : (net : ℕ) (xs ys : List Drive) → pick net (xs ++ ys) ≡ pick net xs ++ pick net ys
+pub pick-append : (net : ℕ) (xs ys : List Drive) → pick net (xs ++ ys) ≡ pick net xs ++ pick net ys
 pick-append net [] ys = refl
 pick-append net (x ∷ xs) ys = by (x.0 == net) (pick-append net xs ys)
   where
@@ -130,7 +130,7 @@ outputs_are (last ∷ past) k on p s =
     ∙ ap (λ (w : Word). w ∷ []) (answered_is last k on p s))
 
 -- the first bit of the first word
-abbrev first_bit : List Word → Bit
+abbrev pub first_bit : List Word → Bit
 first_bit [] = Unknown
 first_bit ([] ∷ words) = Unknown
 first_bit ((bit ∷ word) ∷ words) = bit
@@ -141,7 +141,7 @@ part_drives past k [] = []
 part_drives past k (p ∷ parts) = flat_map (λ (bits : List ℕ). map (λ net. (net, first_bit (output_words past (k, part_of p)))) bits) p.outputs ++ part_drives past (k + 1) parts
 
 -- what input pins drive
-abbrev bit_of_word : Word → Bit
+abbrev pub bit_of_word : Word → Bit
 bit_of_word [] = Unknown
 bit_of_word (bit ∷ word) = bit
 
@@ -173,7 +173,7 @@ part_pick net past k on p s =
 two_lists : (a a' b b' : List Bit) → a ≡ a' → b ≡ b' → a ++ b ≡ a' ++ b'
 two_lists a a' b b' e f = cc
 
-parts_pick : (net : ℕ) (past : List Instant) (on : List ℕ) (k : ℕ) (parts : List PartUse) → AllByRecursion (IsSimple on) parts
+pub parts_pick : (net : ℕ) (past : List Instant) (on : List ℕ) (k : ℕ) (parts : List PartUse) → AllByRecursion (IsSimple on) parts
     → flat_map (λ (p : Numbered). words_on net (map (λ (port : Port). port.nets) p.1.outputs) (output_words past p)) (enumerate_from k (map part_of parts)) ≡ pick net (part_drives past k parts)
 parts_pick net past on k [] simple = refl
 parts_pick net past on k (p ∷ parts) simple =
@@ -193,7 +193,7 @@ AreBitsFor (p ∷ pins) [] = ⊥
 pin_pick : (net k : ℕ) (bit : Bit) → bits_on net (single k) (bit ∷ []) ≡ pick net (map (λ j. (j, bit)) (single k))
 pin_pick net k bit = refl
 
-pins_pick : (net : ℕ) (on : List ℕ) (pins : List PinUse) (words : List Word) → AllByRecursion (IsPinOn on) pins → AreBitsFor pins words
+pub pins_pick : (net : ℕ) (on : List ℕ) (pins : List PinUse) (words : List Word) → AllByRecursion (IsPinOn on) pins → AreBitsFor pins words
     → words_on net (map (λ (p : PinUse). p.bits) pins) words ≡ pick net (pin_drives pins words)
 pins_pick net on [] [] pins bits = refl
 pins_pick net on [] (word ∷ words) pins bits = absurd bits

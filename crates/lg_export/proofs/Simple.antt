@@ -231,6 +231,8 @@ pub record IsPlain (n : Netlist) : Type 0 where
   pub drivers_differ : all_differ (driven n) ≡ true
   pub input_pins_are : input_pins n ≡ filter (λ (p : PinUse). p.input) n.pins
   pub data_pins_are : data_pins n ≡ n.pins
+  pub no_clocks : n.clocks ≡ []
+  pub no_clock_pin : n.clock_pin ≡ None
 
 data_pins_all : (n : Netlist) → n.clock_pin ≡ None → data_pins n ≡ n.pins
 data_pins_all n e = rw e (all_kept 0 n.pins)
@@ -238,6 +240,10 @@ data_pins_all n e = rw e (all_kept 0 n.pins)
     all_kept : (k : ℕ) (pins : List PinUse) → map (λ (p : ℕ × PinUse). p.1) (filter (λ (p : ℕ × PinUse). true) (enumerate_from k pins)) ≡ pins
     all_kept k [] = refl
     all_kept k (p ∷ pins) = ap (λ (ps : List PinUse). p ∷ ps) (all_kept (k + 1) pins)
+
+no_items : {A : Type 0} (xs : List A) → (length xs == 0) ≡ true → xs ≡ []
+no_items [] h = refl
+no_items (x ∷ xs) h = let none : suc (length xs) ≡ 0 = eqb-true (suc (length xs)) 0 h in absurd (omega (arith, none))
 
 none_is : {A : Type 0} (o : Option A) → is_none o ≡ true → o ≡ None
 none_is None h = refl
@@ -263,4 +269,6 @@ IsPlain-from n valid one =
       drivers_differ = third.1;
       input_pins_are = inputs;
       data_pins_are = pins;
+      no_clocks = no_items n.clocks (both_hold (length n.clocks == 0) (is_none n.clock_pin) third.0).0;
+      no_clock_pin = clock;
     }

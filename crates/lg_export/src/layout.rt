@@ -8,6 +8,7 @@ ghost use Rattle.lg_netlist.specs.Valid.{IsValid};
 ghost use Rattle.lg_netlist.specs.OneGate.{is_one_gate};
 ghost use Rattle.lg_export.specs.Readable.{IsNamed, CanBeLaidOut};
 ghost use Rattle.lg_export.specs.Agreement.{Agrees};
+ghost use Rattle.lg_export.specs.InTime.{AgreesInTime};
 
 use crate::drivers::Drivers;
 use crate::fault::NotAccepted;
@@ -29,6 +30,8 @@ pub fn export(alloc: Global, netlist: &Netlist) -> Result<Module, NotAccepted>
     ensures layout { IfOk result (λ m. m ≡ module_of netlist.now) }
     // On each row of defined inputs the module has exactly one solution, and its outputs are the static values.
     ensures agrees { IfOk result (λ m. Agrees netlist.now m) }
+    // Each list of such rows has exactly one session table, in which each row settles in at most one instant, on these outputs.
+    ensures in_time { IfOk result (λ m. AgreesInTime netlist.now m) }
 {
     Ok(laid_out(alloc, netlist)?)
 }
