@@ -1,3 +1,4 @@
 pub mod Written
 pub mod Dues
 pub mod OneSheetLemmas
+pub mod Limits

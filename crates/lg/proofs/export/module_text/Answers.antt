@@ -2,9 +2,11 @@
 use Rattle.std.proofs.Common.{◌≡◌, ℕ, List, sym, ap, subst, ◌∙◌, refl}
 use Rattle.lg_circ.specs.declared.project.Project.{Project}
 use Rattle.lg_export.specs.Agreement.{Agrees}
+use Rattle.lg_export.specs.InTime.{AgreesInTime}
 use Rattle.lg_verilog.specs.declared.module.Module.{Module}
 use Rattle.lg_verilog.specs.Printed.{module_text}
 use Rattle.lg.specs.OneSheet.{IsBuilt}
+use Rattle.lg.proofs.Limits.{limit_is_some}
 use Rattle.lg.proofs.export.module_text.Goals as goal
 
 pub returns-in-Err-NotBuilt : goal.returns-in-Err-NotBuilt
@@ -30,5 +32,8 @@ returns-in-Ok-print c = (
     built = c.in-Ok-one_sheet.ensures.found;
     printed = c.in-Ok-print.ensures ∙ ap module_text c.in-Ok-export.ensures.layout;
     agrees = subst (λ (m : Module). Agrees c.in-Ok-one_sheet.netlist m) c.in-Ok-export.ensures.layout c.in-Ok-export.ensures.agrees;
+    in_time = λ rows defined.
+        subst (λ (m : Module). AgreesInTime c.in-Ok-one_sheet.netlist m) c.in-Ok-export.ensures.layout c.in-Ok-export.ensures.in_time
+            c.in-Ok.project.limit (limit_is_some c.args.bytes.now c.in-Ok.project c.in-Ok.ensures.found) rows defined;
   },
 )
