@@ -1,15 +1,14 @@
 -- A project's limit is at least 1.
-use Rattle.std.proofs.Common.{◌≡◌, ℕ, ◌≤◌, Bool, true, false, ◌&&◌, List, [], ◌∷◌, Option, Some, None, refl, sym, ap, subst, ◌∙◌, arith, if◌then◌else◌}
-use Rattle.std.specs.Prelude.{option_and_then, unwrap_or, nat_le}
+use Rattle.std.proofs.Common.{◌≡◌, ℕ, ◌≤◌, Bool, true, false, ◌&&◌, List, [], ◌∷◌, Option, Some, None, refl, subst, arith, if◌then◌else◌}
+use Rattle.std.specs.Prelude.{unwrap_or, nat_le}
 use Rattle.std.specs.List.{list_all}
 use Rattle.std.proofs.lemmas.Bool.{false≢true, leb-true}
-use Rattle.lg_circ.specs.declared.element.Element.{Element}
 use Rattle.lg_circ.specs.declared.project.Sheet.{Sheet}
 use Rattle.lg_circ.specs.declared.project.Project.{Project}
 use Rattle.lg_circ.specs.Grammar.{is_between}
 use Rattle.lg_circ.specs.Tree.{children_named, child_named, value_under, attribute}
 use Rattle.std.specs.Prelude.{codes}
-use Rattle.lg_circ.specs.Meaning.{◌>>=◌, each, is_digit, number_of, number_between, lib_of, options_of, sheet_of, limit_of, is_error, project_of}
+use Rattle.lg_circ.specs.Meaning.{◌>>=◌, each, is_digit, number_of, lib_of, options_of, sheet_of, limit_of, is_error}
 use Rattle.lg_circ.specs.Plain.{IsPlainProject}
 
 abbrev found : {A : Type 0} → A → Option A

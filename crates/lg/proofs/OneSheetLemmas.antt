@@ -1,8 +1,7 @@
 -- A sheet has one netlist, so what that netlist is not the circuit is not.
-use Rattle.std.proofs.Common.{◌≡◌, ℕ, ◌+◌, ◌<◌, ◌≤◌, Bool, true, false, List, [], ◌∷◌, length, get_or, Option, Some, None, refl, sym, ap, subst, ◌∙◌, arith}
+use Rattle.std.proofs.Common.{◌≡◌, false, List, [], ◌∷◌, length, get_or, Some, sym, ap, subst, ◌∙◌, arith}
 use Rattle.std.specs.List.{zip}
 use Rattle.std.proofs.lemmas.Bool.{false≢true}
-use Rattle.lg_circ.specs.declared.project.Comp.{Comp}
 use Rattle.lg_circ.specs.declared.project.Sheet.{Sheet}
 use Rattle.lg_circ.specs.declared.project.Project.{Project}
 use Rattle.lg_netlist.specs.declared.netlist.Netlist.{Netlist}
@@ -10,7 +9,7 @@ use Rattle.lg_netlist.specs.OneGate.{is_one_gate}
 use Rattle.lg_flatten.specs.declared.role.Role.{Role}
 use Rattle.lg_flatten.specs.Uses.{roles_of}
 use Rattle.lg_flatten.specs.Flat.{IsNetlistOf}
-use Rattle.lg.specs.OneSheet.{IsBuilt, IsNotBuilt}
+use Rattle.lg.specs.OneSheet.{IsNotBuilt}
 
 some_is : (a b : List Role) → Some a ≡ Some b → a ≡ b
 some_is a b e = cc

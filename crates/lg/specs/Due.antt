@@ -1,5 +1,5 @@
 -- What is due for some words and some files: a text, or the first stop in the order of the verb's steps.
-use Rattle.std.specs.Prelude.{◌≡◌, ℕ, ◌<◌, ◌≤◌, List, [], ◌∷◌, ◌++◌, length, Option, Some, None, nat_lt, MatchBool, codes, ◌⊎◌}
+use Rattle.std.specs.Prelude.{◌≡◌, ℕ, List, ◌++◌, length, Option, Some, None, nat_lt, MatchBool, codes}
 use Rattle.std.specs.List.{AllByRecursion}
 use Rattle.lg.specs.declared.status.Status.{Status}
 use Rattle.lg.specs.declared.status.Status.TheVariants.{Usage, Input}

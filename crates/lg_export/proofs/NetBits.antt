@@ -1,26 +1,23 @@
 -- At each instant a driven net of a one-gate circuit carries what its one driver puts on it.
-use Rattle.std.proofs.Common.{◌≡◌, ℕ, zero, suc, ◌+◌, ◌<◌, ◌≤◌, Bool, true, false, not, ◌&&◌, ◌||◌, ◌-◌, cond, List, [], ◌∷◌, ◌++◌, length, map, Option, Some, None, eq-eqb, refl, sym, ap, subst, ◌∙◌, arith, inl, inr, ◌⊎◌, if◌then◌else◌}
+use Rattle.std.proofs.Common.{◌≡◌, ℕ, ◌+◌, Bool, true, false, not, ◌||◌, ◌-◌, List, [], ◌∷◌, ◌++◌, map, Option, Some, eq-eqb, refl, sym, ap, subst, ◌∙◌, inl, inr, ◌⊎◌, if◌then◌else◌}
 use Rattle.std.specs.Prelude.{◌==◌, slice_get}
 use Rattle.std.specs.List.{AllByRecursion, flat_map, enumerate_from}
 use Rattle.std.proofs.lemmas.Bool.{eqb-true, false≢true}
-use Rattle.std.proofs.lemmas.List.{map-append, append-nil}
+use Rattle.std.proofs.lemmas.List.{append-nil}
 use Rattle.lg_value.specs.declared.bit.Bit.{Bit}
-use Rattle.lg_value.specs.declared.bit.Bit.TheVariants.{Zero, One, Unknown, Error}
-use Rattle.lg_value.specs.Drivers.{join_of_drivers}
-use Rattle.lg_timing.specs.Circuit.{Word, Port, Part, Circuit, Stimulus}
+use Rattle.lg_value.specs.declared.bit.Bit.TheVariants.{Unknown}
+use Rattle.lg_timing.specs.Circuit.{Word, Port}
 use Rattle.lg_timing.specs.Instant as time
 use Rattle.lg_timing.specs.Instant.{Instant, Numbered, bits_on, words_on, output_words, drivers_of, net_bit, or_else, input_words}
 use Rattle.lg_netlist.specs.declared.netlist.Cell.{Cell}
 use Rattle.lg_netlist.specs.declared.netlist.Cell.TheVariants as cell
 use Rattle.lg_netlist.specs.declared.netlist.PartUse.{PartUse}
 use Rattle.lg_netlist.specs.declared.netlist.PinUse.{PinUse}
-use Rattle.lg_netlist.specs.declared.netlist.Netlist.{Netlist}
-use Rattle.lg_netlist.specs.OneGate.{driven_by_parts, driven_by_pins, driven, is_among, all_differ}
+use Rattle.lg_netlist.specs.OneGate.{is_among, all_differ}
 use Rattle.lg_netlist.specs.Cell.{gate_word}
-use Rattle.lg_netlist.specs.Static.{input_pins, word_at}
-use Rattle.lg_sim.specs.InTime.{delay_of, port_of, given, part_of, circuit_of}
-use Rattle.lg_export.proofs.Simple.{both_hold, IsNetIn, single, IsSimple, IsPinOn, IsLoose, IsPlain}
-use Rattle.lg_export.proofs.Driving.{split_net}
+use Rattle.lg_netlist.specs.Static.{word_at}
+use Rattle.lg_sim.specs.InTime.{delay_of, port_of, given, part_of}
+use Rattle.lg_export.proofs.Simple.{both_hold, single, IsSimple, IsPinOn, IsLoose}
 use Rattle.lg_export.proofs.Gates.{gate_bit, gate_word-bit}
 
 -- a net and a bit that drives it

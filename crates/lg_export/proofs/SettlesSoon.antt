@@ -1,6 +1,6 @@
 -- A one-gate circuit settles in at most one instant after each stimulus, on its static values.
-use Rattle.std.proofs.Common.{◌≡◌, ℕ, zero, suc, ◌+◌, ◌-◌, ◌<◌, ◌≤◌, Bool, true, false, not, ◌&&◌, ◌||◌, cond, List, [], ◌∷◌, ◌++◌, length, map, fold, Option, Some, None, refl, sym, ap, subst, ◌∙◌, arith, inl, inr, ◌⊎◌, if◌then◌else◌, replicate}
-use Rattle.std.specs.Prelude.{nat_le, ◌==◌}
+use Rattle.std.proofs.Common.{◌≡◌, ℕ, zero, suc, ◌+◌, ◌-◌, ◌<◌, ◌≤◌, Bool, true, false, not, ◌&&◌, ◌||◌, List, [], ◌∷◌, ◌++◌, length, map, refl, sym, ap, subst, ◌∙◌, arith, inl, inr, ◌⊎◌, if◌then◌else◌, replicate}
+use Rattle.std.specs.Prelude.{nat_le}
 use Rattle.std.specs.List.{AllByRecursion, flat_map, enumerate_from, list_any}
 use Rattle.std.proofs.lemmas.Bool.{cases_lt, cases_eq, le-leb, false≢true}
 use Rattle.std.proofs.lemmas.List.{map-append, append-nil}
@@ -9,11 +9,10 @@ use Rattle.lg_value.specs.declared.bit.Bit.{Bit}
 use Rattle.lg_value.specs.declared.bit.Bit.TheVariants.{Zero, One, Unknown, Error}
 use Rattle.lg_value.specs.Bit.{same_bit, equal_from_same_bit, same_bit_refl}
 use Rattle.lg_value.specs.Drivers.{join_of_drivers}
-use Rattle.lg_timing.specs.Circuit.{Word, Port, Part, Circuit, Stimulus}
+use Rattle.lg_timing.specs.Circuit.{Word, Port, Circuit, Stimulus}
 use Rattle.lg_timing.specs.Instant as time
 use Rattle.lg_timing.specs.Instant.{Instant, Numbered, output_words, drivers_of, net_bit, or_else, numbered_parts, in_force, silence, timeline, instant_at, value_at, outputs_at}
 use Rattle.lg_timing.specs.Settling.{same_words, is_busy, busy_count, SettlesAt, SettlesWithin, OscillatesPast}
-use Rattle.lg_netlist.specs.declared.netlist.Cell.{Cell}
 use Rattle.lg_netlist.specs.declared.netlist.PartUse.{PartUse}
 use Rattle.lg_netlist.specs.declared.netlist.PinUse.{PinUse}
 use Rattle.lg_netlist.specs.declared.netlist.Netlist.{Netlist}
@@ -21,7 +20,7 @@ use Rattle.lg_netlist.specs.OneGate.{driven_by_parts, driven_by_pins, driven, al
 use Rattle.lg_netlist.specs.Cell.{gate_word}
 use Rattle.lg_netlist.specs.Static as static
 use Rattle.lg_netlist.specs.Static.{input_pins, output_pins, word_on, Carries, PartCarries, AreStaticValues}
-use Rattle.lg_sim.specs.InTime.{port_of, part_of, circuit_of}
+use Rattle.lg_sim.specs.InTime.{part_of, circuit_of}
 use Rattle.lg_export.proofs.Simple.{IsNetIn, single, IsSimple, IsPinOn, IsLoose, IsPlain}
 use Rattle.lg_export.proofs.Driving.{split_net}
 use Rattle.lg_export.proofs.Gates.{gate_bit, gate_word-bit}
@@ -85,7 +84,7 @@ drivers_are n plain s past net bits =
     ap (λ (cs : List ℕ). (parts ++ pins) ++ clocks cs) (no_clock n plain)
     ∙ (append-nil (parts ++ pins)
     ∙ (two_lists parts (pick net (part_drives past 0 n.parts)) pins (pick net (pin_drives (input_pins n) s.words))
-        (parts_pick net past (driven_by_pins n.pins) 0 n.parts plain.parts) (pins_pick net (driven_by_pins n.pins) (input_pins n) s.words plain.inputs bits)
+    (parts_pick net past (driven_by_pins n.pins) 0 n.parts plain.parts) (pins_pick net (driven_by_pins n.pins) (input_pins n) s.words plain.inputs bits)
     ∙ sym (pick-append net (part_drives past 0 n.parts) (pin_drives (input_pins n) s.words))))
 
 keys_are : (n : Netlist) → IsPlain n → (s : Stimulus) (past : List Instant) → AreBitsFor (input_pins n) s.words → keys (all_drives n s past) ≡ driven n
@@ -190,8 +189,7 @@ parts_say : (value : ℕ → Bit) (past : List Instant) (states : List (List Wor
 parts_say value past states on k [] simple same drive = tt
 parts_say value past states on k (p ∷ parts) simple same drive =
     let s = simple.0 in
-    let here = flat_map (λ (bits : List ℕ). map (λ j. (j, first_bit (shown past k p))) bits) p.outputs in
-    (
+    let here = flat_map (λ (bits : List ℕ). map (λ j. (j, first_bit (shown past k p))) bits) p.outputs in (
       subst (λ (ports : List (List ℕ)). AllByRecursion (λ (bits : List ℕ). Carries value bits (gate_word p.cell (length bits) (map (static.word_at value) p.inputs))) ports) (sym s.gives)
           (by s.output s.loose (λ net e. drive net (out_bit past p.cell (s.first ∷ s.more)) (IsDrive-left here (part_drives past (k + 1) parts) net (out_bit past p.cell (s.first ∷ s.more)) (entry net e))), tt),
       parts_say value past states on (k + 1) parts simple.1 same.1 (λ net bit h. drive net bit (IsDrive-right here (part_drives past (k + 1) parts) net bit h)),
@@ -199,12 +197,15 @@ parts_say value past states on k (p ∷ parts) simple same drive =
   where
     s0 : IsSimple on p
     s0 = simple.0
+
     bit0 : Bit
     bit0 = out_bit past p.cell (s0.first ∷ s0.more)
+
     entry : (net : ℕ) → s0.output ≡ single net → IsDrive (flat_map (λ (bits : List ℕ). map (λ j. (j, first_bit (shown past k p))) bits) p.outputs) net bit0
     entry net e =
         subst (λ (ports : List (List ℕ)). IsDrive (flat_map (λ (bits : List ℕ). map (λ j. (j, first_bit (shown past k p))) bits) ports) net bit0) (sym s0.gives)
         (subst (λ (out : List ℕ). IsDrive (map (λ j. (j, first_bit (shown past k p))) out ++ []) net bit0) (sym e) (inl (refl, ap first_bit (outputs_are past k on p s0))))
+
     by : (out : List ℕ) → IsLoose out → ((net : ℕ) → out ≡ single net → value net ≡ bit0) → Carries value out (gate_word p.cell (length out) (map (static.word_at value) p.inputs))
     by out (inl e) carried = inl e
     by out (inr w) carried =
@@ -271,6 +272,7 @@ pin_has_drive (p ∷ pins) (word ∷ words) bits net h = by (split_net p.bits (f
     here [] g = absurd g
     here (n ∷ ns) (inl e) = inl (sym e, refl)
     here (n ∷ ns) (inr g) = inr (here ns g)
+
     by : IsNetIn p.bits net ⊎ IsNetIn (flat_map (λ (q : PinUse). q.bits) pins) net → (IsNetIn (flat_map (λ (q : PinUse). q.bits) pins) net → (bit : Bit) × IsDrive (pin_drives pins words) net bit)
         → (bit : Bit) × IsDrive (pin_drives (p ∷ pins) (word ∷ words)) net bit
     by (inl g) rest = (bit_of_word word, IsDrive-left (map (λ k. (k, bit_of_word word)) p.bits) (pin_drives pins words) net (bit_of_word word) (here p.bits g))
@@ -320,6 +322,7 @@ settles_soon n stimuli start limit s stays enough = by (is_busy c stimuli (start
   where
     c : Circuit
     c = circuit_of n
+
     by : (b : Bool) → is_busy c stimuli (start + 1) ≡ b → Soon n stimuli start limit
     by true e = record {
       settled = start + 1;
@@ -343,6 +346,7 @@ settles_soon n stimuli start limit s stays enough = by (is_busy c stimuli (start
       where
         none : (k : ℕ) → k - k ≡ 0
         none k = omega arith
+
         quiet : (t : ℕ) → start < t → (t ≡ start + 1) ⊎ (t ≡ start + 1 → ⊥) → is_busy c stimuli t ≡ false
         quiet t low (inl f) = ap (is_busy c stimuli) f ∙ e
         quiet t low (inr ne) = quiet_from n stimuli start s stays t (past_one start t low ne)
@@ -360,6 +364,7 @@ one_instant c stimuli start a b ha hb = by (cases_lt a b) (cases_lt b a)
           | inl e ↦ absurd (omega (arith, e, hx.not_before, less))
           | inr busy ↦ false≢true (sym (hx.quiet y less) ∙ busy)
         ]
+
     by : (a < b) ⊎ (b ≤ a) → (b < a) ⊎ (a ≤ b) → a ≡ b
     by (inl less) other = absurd (not_later a b ha hb less)
     by (inr _) (inl less) = absurd (not_later b a hb ha less)

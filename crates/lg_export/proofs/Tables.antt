@@ -1,26 +1,26 @@
 -- The session table of rows of defined inputs on a one-gate circuit.
-use Rattle.std.proofs.Common.{◌≡◌, ℕ, suc, ◌+◌, ◌-◌, ◌<◌, ◌≤◌, List, [], ◌∷◌, ◌++◌, length, map, Option, Some, None, refl, sym, ap, subst, ◌∙◌, arith, inl, inr, ◌⊎◌, true}
+use Rattle.std.proofs.Common.{◌≡◌, ℕ, suc, ◌+◌, ◌-◌, ◌≤◌, List, [], ◌∷◌, ◌++◌, map, Option, Some, None, refl, sym, ap, subst, ◌∙◌, arith, true}
 use Rattle.std.specs.List.{AllByRecursion}
 use Rattle.lg_value.specs.declared.bit.Bit.{Bit}
 use Rattle.lg_value.specs.Word.{IsDefined, number_of}
-use Rattle.lg_timing.specs.Circuit.{Word, Circuit, Stimulus}
+use Rattle.lg_timing.specs.Circuit.{Word, Stimulus}
 use Rattle.lg_timing.specs.Instant.{value_at}
-use Rattle.lg_timing.specs.Settling.{SettlesAt, SettlesWithin, OscillatesPast}
-use Rattle.lg_timing.specs.Session.{Phase, Settle, Rise, Fall, Line, Stop, Table, read_at, set_at, Settles, Oscillates, RowSettles, Ticks, RowDone, HasClock, RowStops, GoesOn, IsTable}
+use Rattle.lg_timing.specs.Settling.{SettlesAt}
+use Rattle.lg_timing.specs.Session.{Phase, Settle, Rise, Fall, Line, Stop, Table, read_at, set_at, Ticks, HasClock, RowStops, GoesOn}
 use Rattle.lg_netlist.specs.declared.netlist.PinUse.{PinUse}
 use Rattle.lg_netlist.specs.declared.netlist.Netlist.{Netlist}
 use Rattle.lg_netlist.specs.Valid.{IsValid}
 use Rattle.lg_netlist.specs.OneGate.{driven_by_pins, is_one_gate}
-use Rattle.lg_netlist.specs.Static.{input_pins, output_pins, word_on, AreStaticValues, IsDefinedRow, output_words}
+use Rattle.lg_netlist.specs.Static.{input_pins, output_pins, word_on, IsDefinedRow}
 use Rattle.lg_sim.specs.InTime.{circuit_of}
 use Rattle.lg_verilog.specs.declared.module.Module.{Module}
 use Rattle.lg_vmeaning.specs.Meaning.{HasOutputs}
-use Rattle.lg_export.specs.Agreement.{AgreesOnRow, Agrees}
-use Rattle.lg_export.specs.InTime.{LineAgrees, LinesAgree, AgreesOnRows, AgreesInTime}
-use Rattle.lg_export.proofs.Simple.{IsPinOn, single, IsPlain, IsPlain-from}
+use Rattle.lg_export.specs.Agreement.{Agrees}
+use Rattle.lg_export.specs.InTime.{LineAgrees, LinesAgree, AgreesInTime}
+use Rattle.lg_export.proofs.Simple.{IsPinOn, IsPlain, IsPlain-from}
 use Rattle.lg_export.proofs.Agreeing.{one_bit_word}
 use Rattle.lg_export.proofs.NetBits.{AreBitsFor}
-use Rattle.lg_export.proofs.SettlesSoon.{Stays, Soon, settles_soon, static_when_quiet, one_instant, never_oscillates, no_clock, in_force-last}
+use Rattle.lg_export.proofs.SettlesSoon.{Stays, settles_soon, static_when_quiet, one_instant, never_oscillates, no_clock, in_force-last}
 
 -- a row of defined inputs has a bit for each pin
 bits_for : (on : List ℕ) (pins : List PinUse) (row : List Word) → AllByRecursion (IsPinOn on) pins → IsDefinedRow pins row → AreBitsFor pins row

@@ -1,7 +1,6 @@
 -- The exported module agrees with the circuit in time: each row settles, soon, with the module's outputs.
 use Rattle.std.specs.Prelude.{◌≡◌, ℕ, ◌≤◌, List, [], ◌∷◌, map, None}
 use Rattle.std.specs.List.{AllByRecursion}
-use Rattle.lg_value.specs.declared.bit.Bit.{Bit}
 use Rattle.lg_value.specs.Word.{IsDefined, number_of}
 use Rattle.lg_timing.specs.Circuit.{Word}
 use Rattle.lg_timing.specs.Session.{Line, Table, IsTable}

@@ -1,7 +1,6 @@
 -- A netlist in time: parts with the delays and the answers of their cells.
 -- Source: the delay table of this project; the library reference of Logisim-evolution, Gates, for what they answer.
-use Rattle.std.specs.Prelude.{ℕ, List, [], ◌∷◌, ◌++◌, length, map, Option, Some, None, slice_get}
-use Rattle.lg_value.specs.declared.bit.Bit.{Bit}
+use Rattle.std.specs.Prelude.{ℕ, List, [], ◌∷◌, ◌++◌, map, Option, Some, None, slice_get}
 use Rattle.lg_timing.specs.Circuit.{Word, Port, Part, Circuit}
 use Rattle.lg_netlist.specs.declared.netlist.Cell.{Cell}
 use Rattle.lg_netlist.specs.declared.netlist.Cell.TheVariants.{Not, And, Or}
@@ -45,6 +44,7 @@ clock_pin_bits n = bits_at n.clock_pin
     pin_bits : Option PinUse → List ℕ
     pin_bits None = []
     pin_bits (Some pin) = pin.bits
+
     bits_at : Option ℕ → List ℕ
     bits_at None = []
     bits_at (Some place) = pin_bits (slice_get n.pins place)

@@ -1,4 +1,5 @@
 pub mod Circuit
 pub mod Instant
 pub mod Settling
+pub mod Configuration
 pub mod Session

@@ -1,13 +1,12 @@
 -- Equations that stand in order have exactly one solution.
-use Rattle.std.proofs.Common.{◌≡◌, ℕ, ◌^◌, ◌<◌, Bool, true, false, cond, List, [], ◌∷◌, ◌++◌, length, map, refl, sym, ap, subst, ◌∙◌, arith, inl, inr, ◌⊎◌}
+use Rattle.std.proofs.Common.{◌≡◌, ℕ, ◌^◌, ◌<◌, Bool, true, false, cond, List, [], ◌∷◌, length, map, refl, sym, ap, subst, ◌∙◌, arith, inl, inr, ◌⊎◌}
 use Rattle.std.specs.List.{AllByRecursion}
 use Rattle.std.specs.Str.{bytes_eq}
 use Rattle.std.proofs.lemmas.Slice.Eq.{bytes_eq-Decides}
-use Rattle.lg_verilog.specs.declared.module.Expr.{Expr}
 use Rattle.lg_verilog.specs.declared.module.Assign.{Assign}
 use Rattle.lg_verilog.specs.declared.module.Module.{Module}
-use Rattle.lg_vmeaning.specs.Meaning.{Valuation, value_of, Line, declared, input_names, output_names, IsSolution, AgreeOn, HasOutputs}
-use Rattle.lg_vmeaning.specs.InOrder.{IsIn, AgreeAt, ReadsOnly, IsOneBit, AreInOrder}
+use Rattle.lg_vmeaning.specs.Meaning.{Valuation, value_of, Line, declared, input_names, IsSolution, AgreeOn}
+use Rattle.lg_vmeaning.specs.InOrder.{IsIn, AgreeAt, AreInOrder}
 
 -- the valuation with another number at one name
 abbrev pub changed : Valuation → List ℕ → ℕ → Valuation

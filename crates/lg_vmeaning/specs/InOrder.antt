@@ -1,5 +1,5 @@
 -- Equations that stand in order: each reads only names that are known before it, and gives a number to a new one.
-use Rattle.std.specs.Prelude.{◌≡◌, ◌^◌, ◌<◌, ℕ, List, [], ◌∷◌, ◌⊎◌}
+use Rattle.std.specs.Prelude.{◌≡◌, ◌<◌, ℕ, List, [], ◌∷◌, ◌⊎◌}
 use Rattle.lg_verilog.specs.declared.module.Expr.{Expr}
 use Rattle.lg_verilog.specs.declared.module.Assign.{Assign}
 use Rattle.lg_verilog.specs.declared.module.Module.{Module}

@@ -1,5 +1,5 @@
 -- The text is that of the project's module, or there is none.
-use Rattle.std.proofs.Common.{◌≡◌, ℕ, List, sym, ap, subst, ◌∙◌, refl}
+use Rattle.std.proofs.Common.{◌≡◌, sym, ap, subst, ◌∙◌}
 use Rattle.lg_circ.specs.declared.project.Project.{Project}
 use Rattle.lg_export.specs.Agreement.{Agrees}
 use Rattle.lg_export.specs.InTime.{AgreesInTime}
@@ -34,6 +34,6 @@ returns-in-Ok-print c = (
     agrees = subst (λ (m : Module). Agrees c.in-Ok-one_sheet.netlist m) c.in-Ok-export.ensures.layout c.in-Ok-export.ensures.agrees;
     in_time = λ rows defined.
         subst (λ (m : Module). AgreesInTime c.in-Ok-one_sheet.netlist m) c.in-Ok-export.ensures.layout c.in-Ok-export.ensures.in_time
-            c.in-Ok.project.limit (limit_is_some c.args.bytes.now c.in-Ok.project c.in-Ok.ensures.found) rows defined;
+        c.in-Ok.project.limit (limit_is_some c.args.bytes.now c.in-Ok.project c.in-Ok.ensures.found) rows defined;
   },
 )

@@ -1,12 +1,8 @@
 -- The sheet's one netlist is no one-gate circuit.
-use Rattle.std.proofs.Common.{◌≡◌, ◌∷◌, [], ℕ, Vec, Global, List, length, false, refl, sym, ap, subst, ◌∙◌, arith}
+use Rattle.std.proofs.Common.{◌≡◌, ℕ, Vec, Global, List, sym, ap, ◌∙◌, arith}
 use Rattle.std.specs.Prelude.{option_map, Some}
-use Rattle.std.specs.List.{zip}
-use Rattle.lg_circ.specs.declared.project.Sheet.{Sheet}
-use Rattle.lg_circ.specs.declared.project.Comp.{Comp}
 use Rattle.lg_flatten.specs.declared.role.Role.{Role}
 use Rattle.lg_flatten.specs.Uses.{roles_of}
-use Rattle.lg_netlist.specs.OneGate.{is_one_gate}
 use Rattle.lg.proofs.OneSheetLemmas.{one_item, not_one_gate}
 use Rattle.lg.proofs.one_sheet.one_sheet.Goals as goal
 

@@ -1,5 +1,5 @@
 -- A one-gate netlist can be laid out, and its module agrees with it.
-use Rattle.std.proofs.Common.{◌≡◌, sym, subst}
+use Rattle.std.proofs.Common.{sym, subst}
 use Rattle.lg_verilog.specs.declared.module.Module.{Module}
 use Rattle.lg_export.specs.Agreement.{Agrees}
 use Rattle.lg_export.specs.InTime.{AgreesInTime}

@@ -1,6 +1,5 @@
 -- The example is a one-gate netlist.
-use Rattle.std.proofs.Common.{◌≡◌, sym, subst, ap, ◌∙◌, true}
-use Rattle.lg_netlist.specs.declared.netlist.Netlist.{Netlist}
+use Rattle.std.proofs.Common.{sym, subst, ap, ◌∙◌}
 use Rattle.lg_netlist.specs.Valid.{IsValid}
 use Rattle.lg_netlist.specs.OneGate.{is_one_gate}
 use Rattle.lg_export.proofs.OneNot.{one_not-valid, one_not-one_gate}
