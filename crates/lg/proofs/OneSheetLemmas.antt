@@ -9,7 +9,7 @@ use Rattle.lg_netlist.specs.OneGate.{is_one_gate}
 use Rattle.lg_flatten.specs.declared.role.Role.{Role}
 use Rattle.lg_flatten.specs.Uses.{roles_of}
 use Rattle.lg_flatten.specs.Flat.{IsNetlistOf}
-use Rattle.lg.specs.OneSheet.{IsNotBuilt}
+use Rattle.lg.specs.OneSheet.{IsBuilt, IsNotBuilt}
 
 some_is : (a b : List Role) → Some a ≡ Some b → a ≡ b
 some_is a b e = cc
@@ -23,12 +23,17 @@ one_item [] sheet e is = absurd (omega (arith, e))
 one_item (s ∷ []) sheet e is = ap (λ (x : Sheet). x ∷ []) (sym is)
 one_item (s ∷ t ∷ more) sheet e is = absurd (omega (arith, e))
 
+-- what the project has built is the one netlist of its sheet
+pub one_built : (project : Project) (sheet : Sheet) (roles : List Role) (n : Netlist) → project.sheets ≡ sheet ∷ [] → roles_of project.libs sheet.comps ≡ Some roles
+    → ((other : Netlist) → IsNetlistOf sheet (zip sheet.comps roles) other → other ≡ n) → (other : Netlist) → IsBuilt project other → other ≡ n
+one_built project sheet roles n one known only other built =
+    let same : built.sheet ≡ sheet = head_is built.sheet sheet (sym built.only_sheet ∙ one) in
+    let as_roles : built.roles ≡ roles = some_is built.roles roles (sym built.roles_are ∙ (ap (λ (s : Sheet). roles_of project.libs s.comps) same ∙ known)) in
+    let moved : IsNetlistOf sheet (zip sheet.comps built.roles) other = subst (λ (s : Sheet). IsNetlistOf s (zip s.comps built.roles) other) same built.netlist in
+    only other (subst (λ (rs : List Role). IsNetlistOf sheet (zip sheet.comps rs) other) as_roles moved)
+
 -- where the one netlist of the sheet is no one-gate circuit, the project has none
 pub not_one_gate : (project : Project) (sheet : Sheet) (roles : List Role) (n : Netlist) → project.sheets ≡ sheet ∷ [] → roles_of project.libs sheet.comps ≡ Some roles
     → ((other : Netlist) → IsNetlistOf sheet (zip sheet.comps roles) other → other ≡ n) → is_one_gate n ≡ false → IsNotBuilt project
 not_one_gate project sheet roles n one known only none other built =
-    let same : built.sheet ≡ sheet = head_is built.sheet sheet (sym built.only_sheet ∙ one) in
-    let as_roles : built.roles ≡ roles = some_is built.roles roles (sym built.roles_are ∙ (ap (λ (s : Sheet). roles_of project.libs s.comps) same ∙ known)) in
-    let moved : IsNetlistOf sheet (zip sheet.comps built.roles) other = subst (λ (s : Sheet). IsNetlistOf s (zip s.comps built.roles) other) same built.netlist in
-    let here : IsNetlistOf sheet (zip sheet.comps roles) other = subst (λ (rs : List Role). IsNetlistOf sheet (zip sheet.comps rs) other) as_roles moved in
-    false≢true (sym none ∙ (ap is_one_gate (sym (only other here)) ∙ built.one_gate))
+    false≢true (sym none ∙ (ap is_one_gate (sym (one_built project sheet roles n one known only other built)) ∙ built.one_gate))

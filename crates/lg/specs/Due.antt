@@ -50,6 +50,8 @@ pub record IsAgreedText (bytes text : List ℕ) : Type 0 where
   pub says : IsPlainProject bytes project
   pub built : IsBuilt project netlist
   pub printed : text ≡ module_text (module_of netlist)
+  -- no other text is that of the bytes' module
+  pub only : (other : List ℕ) → IsModuleText bytes other → other ≡ text
   pub agrees : Agrees netlist (module_of netlist)
   -- each list of rows of defined inputs has one session table at the project's limit
   pub in_time : (rows : List (List Word)) → AllByRecursion (IsDefinedRow (input_pins netlist)) rows → AgreesOnRows netlist (module_of netlist) project.limit rows

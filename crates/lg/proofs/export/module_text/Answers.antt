@@ -3,6 +3,8 @@ use Rattle.std.proofs.Common.{◌≡◌, sym, ap, subst, ◌∙◌}
 use Rattle.lg_circ.specs.declared.project.Project.{Project}
 use Rattle.lg_export.specs.Agreement.{Agrees}
 use Rattle.lg_export.specs.InTime.{AgreesInTime}
+use Rattle.lg_export.specs.Layout.{module_of}
+use Rattle.lg_netlist.specs.declared.netlist.Netlist.{Netlist}
 use Rattle.lg_verilog.specs.declared.module.Module.{Module}
 use Rattle.lg_verilog.specs.Printed.{module_text}
 use Rattle.lg.specs.OneSheet.{IsBuilt}
@@ -31,6 +33,10 @@ returns-in-Ok-print c = (
     says = c.in-Ok.ensures.found;
     built = c.in-Ok-one_sheet.ensures.found;
     printed = c.in-Ok-print.ensures ∙ ap module_text c.in-Ok-export.ensures.layout;
+    only = λ other t.
+        let same : c.in-Ok.project ≡ t.project = c.in-Ok.ensures.only t.project t.says c.in-Ok.ensures.within in
+        let netlist = c.in-Ok-one_sheet.ensures.only t.netlist (subst (λ (p : Project). IsBuilt p t.netlist) (sym same) t.built) in
+        t.printed ∙ (ap (λ (n : Netlist). module_text (module_of n)) netlist ∙ sym (c.in-Ok-print.ensures ∙ ap module_text c.in-Ok-export.ensures.layout));
     agrees = subst (λ (m : Module). Agrees c.in-Ok-one_sheet.netlist m) c.in-Ok-export.ensures.layout c.in-Ok-export.ensures.agrees;
     in_time = λ rows defined.
         subst (λ (m : Module). AgreesInTime c.in-Ok-one_sheet.netlist m) c.in-Ok-export.ensures.layout c.in-Ok-export.ensures.in_time
