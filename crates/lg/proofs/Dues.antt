@@ -57,7 +57,7 @@ stop_is_input file (Some bytes) s line h = by_limit (nat_lt longest_project (len
 -- the text of a module that is held is due
 text_is_due : (held : Held) (file bytes text : List ℕ) → held file ≡ Some bytes → length bytes ≤ longest_project → IsAgreedText bytes text → IsExportDue file (held file) (Text text)
 text_is_due held file bytes text e fits t =
-    rw e (within_limit file bytes (Text text) fits (record { project = t.project; netlist = t.netlist; says = t.says; built = t.built; printed = t.printed }))
+    rw e (within_limit file bytes (Text text) fits t.made)
 
 -- after the text of a module only a text is due
 done_at : (file : List ℕ) (found : Option (List ℕ)) (text : List ℕ) (due : Due) (f f' o o' : ℕ) → IsExportDue file found (Text text) → IsExportDue file found due → Follows due status.Done f f' o o'

@@ -45,16 +45,13 @@ pub record IsModuleText (bytes text : List ℕ) : Type 0 where
 
 -- the text is that of a module which agrees with the netlist of the project in the bytes, without time and in time
 pub record IsAgreedText (bytes text : List ℕ) : Type 0 where
-  pub project : Project
-  pub netlist : Netlist
-  pub says : IsPlainProject bytes project
-  pub built : IsBuilt project netlist
-  pub printed : text ≡ module_text (module_of netlist)
+  pub made : IsModuleText bytes text
   -- no other text is that of the bytes' module
   pub only : (other : List ℕ) → IsModuleText bytes other → other ≡ text
-  pub agrees : Agrees netlist (module_of netlist)
+  pub agrees : Agrees made.netlist (module_of made.netlist)
   -- each list of rows of defined inputs has one session table at the project's limit
-  pub in_time : (rows : List (List Word)) → AllByRecursion (IsDefinedRow (input_pins netlist)) rows → AgreesOnRows netlist (module_of netlist) project.limit rows
+  pub in_time : (rows : List (List Word)) → AllByRecursion (IsDefinedRow (input_pins made.netlist)) rows
+      → AgreesOnRows made.netlist (module_of made.netlist) made.project.limit rows
 
 -- the text of the module, or NotBuilt where there is none
 abbrev pub IsModuleDue : List ℕ → List ℕ → Due → Type 0

@@ -28,6 +28,10 @@ pub record IsBuilt (project : Project) (n : Netlist) : Type 0 where
   -- no two drivers are joined, each gate reads input pins alone, and each output pin is driven
   pub one_gate : IsTrue (is_one_gate n)
 
+-- the project has no other netlist
+abbrev pub IsOnlyBuilt : Project → Netlist → Type 0
+IsOnlyBuilt project n = (other : Netlist) → IsBuilt project other → other ≡ n
+
 -- the project's circuit is none that is exported so far
 abbrev pub IsNotBuilt : Project → Type 0
 IsNotBuilt project = (n : Netlist) → IsBuilt project n → ⊥

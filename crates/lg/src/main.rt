@@ -1,4 +1,4 @@
-//! `lg`: simulates, tests, exports and marks circuits that digital design classes draw.
+//! `lg`: exports the circuits that digital design classes draw.
 #![tactic(auto)]
 
 ghost use Rattle.std.specs.Prelude.{◌≡◌, []};

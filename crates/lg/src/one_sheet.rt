@@ -3,9 +3,8 @@
 ghost use Rattle.std.specs.Prelude.{◌≡◌, ◌+◌, ◌*◌, ◌<◌, ◌^◌, length, All, IsTrue, IfOk, IsErrOf};
 ghost use Rattle.std.specs.List.{list_all};
 ghost use Rattle.lg_netlist.specs.Valid.{IsValid};
-ghost use Rattle.lg_netlist.specs.declared.netlist.Netlist.{Netlist as Made};
 ghost use Rattle.lg_netlist.specs.OneGate.{is_one_gate};
-ghost use Rattle.lg.specs.OneSheet.{is_straight, IsBuilt, IsNotBuilt};
+ghost use Rattle.lg.specs.OneSheet.{is_straight, IsBuilt, IsOnlyBuilt, IsNotBuilt};
 ghost use Rattle.lg.specs.declared.one_sheet.EarlyFault.TheVariants.{Memory};
 
 use lg_circ::{Project, Wire};
@@ -34,7 +33,7 @@ impl From<AllocError> for EarlyFault {
 pub fn one_sheet(alloc: Global, project: &Project) -> Result<Netlist, EarlyFault>
     requires few { All (λ sheet. 3 * length sheet.comps + 2 * length sheet.wires < 2 ^ 32) project.now.sheets }
     ensures found { IfOk result (IsBuilt project.now) }
-    ensures only { IfOk result (λ n. (other : Made) → IsBuilt project.now other → other ≡ n) }
+    ensures only { IfOk result (IsOnlyBuilt project.now) }
     ensures not_built { IsErrOf result EarlyFault.NotBuilt → IsNotBuilt project.now }
     ensures valid { IfOk result IsValid }
     ensures one_gate { IfOk result (λ n. IsTrue (is_one_gate n)) }

@@ -1,3 +1,5 @@
+//! `run` over objects in memory.
+
 ghost use Rattle.std.specs.Prelude.{◌<◌};
 
 use crate::run::run;
@@ -232,7 +234,7 @@ fn other_sheets_are_not_built(rt: HostRuntime) -> Result<(), Fail> {
         format!(in alloc; "{A}{third}")?,
         // A gate's output on an input pin.
         format!(in alloc; "{NOT}{A}{third}")?,
-        // What no point allows.
+        // Components, wires and texts that are not built.
         format!(in alloc; "{A}{skew}")?,
         format!(in alloc; "{A}{odd}{Y}")?,
         format!(in alloc; "{nand}")?,

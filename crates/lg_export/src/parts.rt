@@ -45,28 +45,18 @@ pub fn put_assigns(
     requires { IsFed drivers.now used.now }
     ensures { OnOk result (assigns.new ≡ assigns.old ++ part_assigns drivers.now (part, used.now)) }
 {
+    let mut read = Vec::new(alloc);
     for (input, bits) in used.inputs.as_slice().iter().enumerate() {
         if !bits.is_empty() {
             let name = input_wire(alloc, part, input)?;
             let value = drivers.bits_value(alloc, bits.as_slice())?;
             assigns.push(Assign { name, value })?;
+            read.push(Expr::Whole(input_wire(alloc, part, input)?))?;
         }
     }
     let name = output_wire(alloc, part, 0)?;
-    let value = equation(alloc, used.cell, input_wires(alloc, part, used)?)?;
+    let value = equation(alloc, used.cell, read)?;
     assigns.push(Assign { name, value })
-}
-
-fn input_wires(alloc: Global, part: usize, used: &PartUse) -> Result<Vec<Expr>, AllocError>
-    ensures { IfOk result (λ wires. wires.items ≡ map (λ i. Whole (input_wire part i.0)) (attached used.now)) }
-{
-    let mut wires = Vec::new(alloc);
-    for (input, bits) in used.inputs.as_slice().iter().enumerate() {
-        if !bits.is_empty() {
-            wires.push(Expr::Whole(input_wire(alloc, part, input)?))?;
-        }
-    }
-    Ok(wires)
 }
 
 // What a gate says of its attached inputs.

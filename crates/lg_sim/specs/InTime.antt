@@ -1,5 +1,5 @@
 -- A netlist in time: parts with the delays and the answers of their cells.
--- Source: the delay table of this project; the library reference of Logisim-evolution, Gates, for what they answer.
+-- Source: the library reference of Logisim-evolution, Gates, for what they answer; delays are this project's choice.
 use Rattle.std.specs.Prelude.{ℕ, List, [], ◌∷◌, ◌++◌, map, Option, Some, None, slice_get}
 use Rattle.lg_timing.specs.Circuit.{Word, Port, Part, Circuit}
 use Rattle.lg_netlist.specs.declared.netlist.Cell.{Cell}

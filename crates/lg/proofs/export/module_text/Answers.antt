@@ -28,11 +28,13 @@ pub returns-in-Ok-print : goal.returns-in-Ok-print
 returns-in-Ok-print c = (
   c.in-Ok.ensures.within,
   record {
-    project = c.in-Ok.project;
-    netlist = c.in-Ok-one_sheet.netlist;
-    says = c.in-Ok.ensures.found;
-    built = c.in-Ok-one_sheet.ensures.found;
-    printed = c.in-Ok-print.ensures ∙ ap module_text c.in-Ok-export.ensures.layout;
+    made = record {
+      project = c.in-Ok.project;
+      netlist = c.in-Ok-one_sheet.netlist;
+      says = c.in-Ok.ensures.found;
+      built = c.in-Ok-one_sheet.ensures.found;
+      printed = c.in-Ok-print.ensures ∙ ap module_text c.in-Ok-export.ensures.layout;
+    };
     only = λ other t.
         let same : c.in-Ok.project ≡ t.project = c.in-Ok.ensures.only t.project t.says c.in-Ok.ensures.within in
         let netlist = c.in-Ok-one_sheet.ensures.only t.netlist (subst (λ (p : Project). IsBuilt p t.netlist) (sym same) t.built) in
