@@ -1,7 +1,8 @@
 //! The law of settling.
 
 ghost use Rattle.std.specs.Prelude.{◌≡◌, ℕ, ◌+◌, ◌<◌, ◌≤◌, false, List, ◌⊎◌, All};
-ghost use Rattle.lg_timing.specs.Circuit.{Circuit, Stimulus};
+ghost use Rattle.lg_timing.specs.Circuit.{Word, Circuit, Stimulus};
+ghost use Rattle.lg_timing.specs.Session.{Table, IsTable};
 ghost use Rattle.lg_timing.specs.Settling.{is_busy, SettlesAt, SettlesWithin, OscillatesPast, IsSteady, StayFrom};
 
 /// A law: while its stimulus stays, a circuit of steady parts either settles within a limit of busy
@@ -22,4 +23,10 @@ pub fn settling_is_decided()
         → SettlesAt c stimuli start a → SettlesAt c stimuli start b → a ≡ b }
     ensures one_number { (c : Circuit) (stimuli : List Stimulus) (start limit a b : ℕ)
         → OscillatesPast c stimuli start limit a → OscillatesPast c stimuli start limit b → a ≡ b }
+{}
+
+/// A law: rows have at most one session table, at each limit.
+pub fn rows_have_one_table()
+    ensures { (c : Circuit) (limit : ℕ) (rows : List (List Word)) (a b : Table)
+        → IsTable c limit rows a → IsTable c limit rows b → a ≡ b }
 {}

@@ -3,4 +3,4 @@
 
 mod law;
 
-pub use law::settling_is_decided;
+pub use law::{rows_have_one_table, settling_is_decided};
