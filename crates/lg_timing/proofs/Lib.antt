@@ -4,3 +4,4 @@ pub mod Instants
 pub mod Stretch
 pub mod Counting
 pub mod Outcome
+pub mod Rest
