@@ -372,6 +372,6 @@ one_instant c stimuli start a b ha hb = by (cases_lt a b) (cases_lt b a)
 
 -- and it does not oscillate
 pub never_oscillates : (n : Netlist) (stimuli : List Stimulus) (start limit : ℕ) (s : Stimulus) → Stays n stimuli start s → 1 ≤ limit → (after : ℕ) → OscillatesPast (circuit_of n) stimuli start limit after → ⊥
-never_oscillates n stimuli start limit s stays enough zero o = absurd (omega (arith, o.later))
+never_oscillates n stimuli start limit s stays enough zero o = absurd (omega (arith, o.number, count_none (circuit_of n) stimuli start))
 never_oscillates n stimuli start limit s stays enough (suc zero) o = absurd (omega (arith, o.number, count_one (circuit_of n) stimuli start, enough))
 never_oscillates n stimuli start limit s stays enough (suc (suc after)) o = false≢true (sym (quiet_from n stimuli start s stays (start + suc (suc after)) (omega arith)) ∙ o.busy)

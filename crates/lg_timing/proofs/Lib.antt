@@ -5,3 +5,4 @@ pub mod Stretch
 pub mod Counting
 pub mod Outcome
 pub mod OneTable
+pub mod Rest

@@ -70,7 +70,6 @@ busy_there c stimuli start limit n m reached first =
     record {
       busy = first.busy;
       number = omega (arith, reached.count, busy_count_next c stimuli start n m first);
-      later = omega (arith, first.later);
     }
 
 reached_next : (c : Circuit) (stimuli : List Stimulus) (start limit n m left : ℕ) → IsReached c stimuli start limit n (suc left) → IsFirstBusy c stimuli (start + n) (start + m) → IsReached c stimuli start limit m left

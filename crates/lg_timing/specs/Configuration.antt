@@ -4,7 +4,7 @@ use Rattle.std.specs.List.{AllByRecursion, range_with_len}
 use Rattle.lg_value.specs.declared.bit.Bit.{Bit}
 use Rattle.lg_timing.specs.Circuit.{Word, Circuit, Stimulus}
 use Rattle.lg_timing.specs.Instant.{Numbered, numbered_parts, answered, in_force, timeline, instant_at, outputs_at}
-use Rattle.lg_timing.specs.Settling.{is_busy}
+use Rattle.lg_timing.specs.Settling.{is_busy, StayFrom}
 
 -- the words that a part is to show some instants after one, at most its delay: what it answers to an instant up to that one
 abbrev pub due_words : Circuit → List Stimulus → ℕ → Numbered → ℕ → List Word
@@ -32,7 +32,8 @@ configuration_at c stimuli t = record {
 abbrev pub IsSteadyFrom : Circuit → List Stimulus → ℕ → Numbered → Type 0
 IsSteadyFrom c stimuli t p = (later : ℕ) → 1 ≤ later → later ≤ p.1.delay → due_words c stimuli t p later ≡ outputs_at c stimuli t p
 
--- the configuration at an instant is at rest: nothing else is due, and while the last stimulus stays no later instant is busy
+-- the configuration at an instant is at rest: the stimulus stays, nothing else is due than what is shown, and no later instant is busy
 pub record IsAtRest (c : Circuit) (stimuli : List Stimulus) (t : ℕ) : Type 0 where
+  pub stays : StayFrom stimuli t
   pub steady : AllByRecursion (IsSteadyFrom c stimuli t) (numbered_parts c)
   pub quiet : (u : ℕ) → t < u → is_busy c stimuli u ≡ false

@@ -88,7 +88,7 @@ next c s past = record { nets = net_bit c s past; states = map (next_state past 
 abbrev pub silence : Stimulus
 silence = record { from = 0; words = []; clock = Unknown }
 
--- the stimulus at an instant: the last that stands at it or before
+-- the stimulus at an instant: the last in the list of those that stand at it or before
 abbrev pub in_force : List Stimulus → ℕ → Stimulus
 in_force stimuli t = fold (λ (s later : Stimulus). if nat_le later.from t then later else s) silence stimuli
 

@@ -19,7 +19,7 @@ unfoldable pub busy_count : Circuit → List Stimulus → ℕ → ℕ → ℕ
 busy_count c stimuli start zero = 0
 busy_count c stimuli start (suc n) = busy_count c stimuli start n + (if is_busy c stimuli (start + suc n) then 1 else 0)
 
--- The last stimulus, which stands at `start`, has settled at an instant: the last busy one, or `start` where there is none.
+-- For a last stimulus at `start`: it has settled at an instant, the last busy one after it, or `start` where there is none.
 pub record SettlesAt (c : Circuit) (stimuli : List Stimulus) (start settled : ℕ) : Type 0 where
   pub not_before : start ≤ settled
   pub last_busy : (settled ≡ start) ⊎ (is_busy c stimuli settled ≡ true)
@@ -34,7 +34,6 @@ pub record SettlesWithin (c : Circuit) (stimuli : List Stimulus) (start limit se
 pub record OscillatesPast (c : Circuit) (stimuli : List Stimulus) (start limit after : ℕ) : Type 0 where
   pub busy : is_busy c stimuli (start + after) ≡ true
   pub number : busy_count c stimuli start after ≡ limit + 1
-  pub later : 0 < after
 
 -- what a part needs for an end to come: a delay from 1 to a greatest one, and a second step to the same inputs changes nothing
 pub record IsSteady (greatest : ℕ) (p : Part) : Type 0 where

@@ -4,6 +4,7 @@ ghost use Rattle.std.specs.Prelude.{◌≡◌, ℕ, ◌+◌, ◌<◌, ◌≤◌,
 ghost use Rattle.lg_timing.specs.Circuit.{Word, Circuit, Stimulus};
 ghost use Rattle.lg_timing.specs.Session.{Table, IsTable};
 ghost use Rattle.lg_timing.specs.Settling.{is_busy, SettlesAt, SettlesWithin, OscillatesPast, IsSteady, StayFrom};
+ghost use Rattle.lg_timing.specs.Configuration.{IsAtRest};
 
 /// A law: while its stimulus stays, a circuit of steady parts either settles within a limit of busy
 /// instants or oscillates past it, and never both.
@@ -23,6 +24,9 @@ pub fn settling_is_decided()
         → SettlesAt c stimuli start a → SettlesAt c stimuli start b → a ≡ b }
     ensures one_number { (c : Circuit) (stimuli : List Stimulus) (start limit a b : ℕ)
         → OscillatesPast c stimuli start limit a → OscillatesPast c stimuli start limit b → a ≡ b }
+    // What has settled is at rest.
+    ensures rest { (c : Circuit) (stimuli : List Stimulus) (start settled : ℕ)
+        → StayFrom stimuli start → SettlesAt c stimuli start settled → IsAtRest c stimuli settled }
 {}
 
 /// A law: rows have at most one session table, at each limit.
