@@ -4,3 +4,9 @@ pub mod Instants
 pub mod Stretch
 pub mod Counting
 pub mod Outcome
+pub mod DriverSteps
+pub mod PartSteps
+pub mod SeenLemmas
+pub mod RunLemmas
+pub mod TableLemmas
+pub mod SampleLemmas

@@ -2,3 +2,6 @@ pub mod Circuit
 pub mod Instant
 pub mod Settling
 pub mod Session
+pub mod Plain
+pub mod Samples
+pub mod Rows
