@@ -6,3 +6,9 @@ pub mod Counting
 pub mod Outcome
 pub mod OneTable
 pub mod Rest
+pub mod DriverSteps
+pub mod PartSteps
+pub mod SeenLemmas
+pub mod RunLemmas
+pub mod TableLemmas
+pub mod SampleLemmas

@@ -3,3 +3,6 @@ pub mod Instant
 pub mod Settling
 pub mod Configuration
 pub mod Session
+pub mod Plain
+pub mod Samples
+pub mod Rows

@@ -2,15 +2,11 @@
 use Rattle.std.specs.Prelude.{◌≡◌, ℕ, ◌+◌, ◌-◌, List, [], ◌∷◌, ◌++◌, map, Option, Some, None}
 use Rattle.lg_value.specs.declared.bit.Bit.{Bit}
 use Rattle.lg_value.specs.declared.bit.Bit.TheVariants.{Zero, One}
+use Rattle.lg_timing.specs.declared.phase.Phase.{Phase}
+use Rattle.lg_timing.specs.declared.phase.Phase.TheVariants.{Settle, Rise, Fall}
 use Rattle.lg_timing.specs.Circuit.{Word, Circuit, Stimulus}
 use Rattle.lg_timing.specs.Instant.{value_at}
 use Rattle.lg_timing.specs.Settling.{SettlesWithin, OscillatesPast}
-
--- what a row does in turn: its inputs settle, and with a clock it rises and falls
-pub data Phase : Type 0 where
-  Settle : Phase
-  Rise : Phase
-  Fall : Phase
 
 -- a row of the table: the words of the output pins, the instants taken, and those of the rise and the fall where there is a clock
 pub record Line : Type 0 where

@@ -1,6 +1,31 @@
 //! Circuits in time: what each net carries at each instant, and when a circuit settles.
 #![tactic(auto)]
 
+mod circuit;
+mod drivers;
+mod history;
+mod kept;
 mod law;
+mod part;
+mod phase;
+mod port;
+mod settling;
+mod table;
+mod value;
+mod well_formed;
+mod words;
 
 pub use law::{rows_have_one_table, settling_is_decided};
+pub use circuit::{Circuit, Stimulus};
+pub use part::Behaviour;
+pub use phase::Phase;
+pub use port::{Nets, Port};
+pub use table::{Line, Stop, Table, session};
+pub use value::value_at;
+pub use well_formed::is_well_formed;
+pub use words::Words;
+
+#[cfg(test)]
+mod samples;
+#[cfg(test)]
+mod tests;

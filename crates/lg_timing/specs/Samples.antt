@@ -1,0 +1,62 @@
+-- The parts of the tests: gates, a constant and a flip-flop, with ports of one bit.
+use Rattle.std.specs.Prelude.{ℕ, Bool, ◌&&◌, not, List, [], ◌∷◌, slice_index_or, if◌then◌else◌}
+use Rattle.lg_value.specs.declared.bit.Bit.{Bit}
+use Rattle.lg_value.specs.declared.bit.Bit.TheVariants.{Zero, One, Unknown, Error}
+use Rattle.lg_value.specs.Bit.{same_bit}
+use Rattle.lg_timing.specs.Circuit.{Word, Port, Part}
+
+-- the lowest bit of the word at a place, and unknown where there is none
+abbrev pub bit_in : List Word → ℕ → Bit
+bit_in words place = slice_index_or (slice_index_or words place []) 0 Unknown
+
+abbrev pub not_bit : Bit → Bit
+not_bit Zero = One
+not_bit One = Zero
+not_bit Unknown = Error
+not_bit Error = Error
+
+abbrev pub and_bit : Bit → Bit → Bit
+and_bit Zero b = Zero
+and_bit One b = b
+and_bit Unknown Zero = Zero
+and_bit Unknown b = Error
+and_bit Error Zero = Zero
+and_bit Error b = Error
+
+abbrev pub one_word : Bit → List Word
+one_word b = (b ∷ []) ∷ []
+
+-- whether the second input rises
+abbrev pub rises : List Word → List Word → Bool
+rises before now = not (same_bit (bit_in before 1) One) && same_bit (bit_in now 1) One
+
+-- a part without a state, with a delay of 1
+abbrev pub gate : (List Word → List Word) → List Port → List Port → Part
+gate f inputs outputs = record {
+  delay = 1;
+  inputs = inputs;
+  outputs = outputs;
+  start = [];
+  step = λ state before now. state;
+  out = λ state now. f now;
+}
+
+abbrev pub not_gate : List Port → List Port → Part
+not_gate = gate (λ now. one_word (not_bit (bit_in now 0)))
+
+abbrev pub and_gate : List Port → List Port → Part
+and_gate = gate (λ now. one_word (and_bit (bit_in now 0) (bit_in now 1)))
+
+abbrev pub constant : List Port → List Port → Part
+constant = gate (λ now. one_word One)
+
+-- it takes its first input where its second rises, and gives its state and the opposite of that
+abbrev pub flip_flop : List Port → List Port → Part
+flip_flop inputs outputs = record {
+  delay = 5;
+  inputs = inputs;
+  outputs = outputs;
+  start = one_word Zero;
+  step = λ state before now. if rises before now then one_word (bit_in now 0) else state;
+  out = λ state now. (bit_in state 0 ∷ []) ∷ one_word (not_bit (bit_in state 0));
+}
