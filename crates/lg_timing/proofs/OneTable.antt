@@ -1,11 +1,9 @@
 -- Rows have one session table: each stimulus settles at one instant or oscillates.
 use Rattle.std.proofs.Common.{◌≡◌, ℕ, ◌+◌, ◌-◌, List, [], ◌∷◌, ◌++◌, Option, Some, None, refl, sym, ap, subst, ◌∙◌}
-use Rattle.lg_value.specs.declared.bit.Bit.{Bit}
 use Rattle.lg_timing.specs.declared.phase.Phase.{Phase}
 use Rattle.lg_timing.specs.declared.phase.Phase.TheVariants.{Settle, Rise, Fall}
 use Rattle.lg_timing.specs.Circuit.{Word, Circuit, Stimulus}
-use Rattle.lg_timing.specs.Settling.{SettlesWithin, OscillatesPast}
-use Rattle.lg_timing.specs.Session.{Line, Stop, Table, read_at, set_at, rise_at, Settles, Oscillates, RowSettles, RowTicks, Ticks, RowDone, HasClock, RiseStops, FallStops, RowStops, GoesOn, IsTable}
+use Rattle.lg_timing.specs.Session.{Line, Stop, Table, read_at, set_at, rise_at, Settles, Oscillates, RowTicks, Ticks, RowDone, HasClock, RiseStops, FallStops, RowStops, GoesOn, IsTable}
 use Rattle.lg_timing.proofs.Outcome.{not_both_ways, settles_once}
 
 same_instant : (c : Circuit) (limit : ℕ) (before : List Stimulus) (s : Stimulus) (a b : ℕ) → Settles c limit before s a → Settles c limit before s b → a ≡ b

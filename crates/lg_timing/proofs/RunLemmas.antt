@@ -1,6 +1,5 @@
 -- What a run finds out of the busy instants.
 use Rattle.std.proofs.Common.{◌≡◌, ℕ, zero, suc, ◌+◌, ◌-◌, ◌<◌, ◌≤◌, Bool, true, false, List, [], ◌∷◌, length, map, drop, max, fold, inl, inr, ◌∙◌, ap, refl, arith, rules, take, take_all, length-drop}
-use Rattle.std.proofs.lemmas.Bool.{cases_lt}
 use Rattle.std.specs.Prelude.{◌⊎◌, ◌||◌, not, All}
 use Rattle.std.specs.List.{list_any, AllByRecursion}
 use Rattle.std.proofs.lemmas.List.{length-map}
@@ -116,13 +115,7 @@ reached-next c stimuli start last count reach end true reached some ends =
 oscillates_there : (c : Circuit) (stimuli : List Stimulus) (start limit last count : ℕ) → IsReached c stimuli start last count → count ≡ limit + 1 → is_busy c stimuli last ≡ true → OscillatesPast c stimuli start limit (last - start)
 oscillates_there c stimuli start limit last count reached more busy =
     let here : start + (last - start) ≡ last = omega (arith, reached.after) in
-    elim (cases_lt 0 (last - start)) [
-      | inl later ↦ record { busy = rw here busy; number = reached.count ∙ more; later = later }
-      | inr none ↦
-          let zero_long : last - start ≡ 0 = omega (arith, none) in
-          let few : busy_count c stimuli start (last - start) ≡ 0 = rw zero_long (busy_count_none c stimuli start) in
-          absurd (omega (arith, few, reached.count, more))
-    ]
+    record { busy = rw here busy; number = reached.count ∙ more }
 
 -- one more than the limit
 pub reached-oscillates : (c : Circuit) (stimuli : List Stimulus) (start limit last count : ℕ) → IsReached c stimuli start last count → count ≡ limit + 1 → (after : ℕ) × OscillatesPast c stimuli start limit after

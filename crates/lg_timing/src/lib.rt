@@ -15,8 +15,8 @@ mod value;
 mod well_formed;
 mod words;
 
-pub use law::{rows_have_one_table, settling_is_decided};
 pub use circuit::{Circuit, Stimulus};
+pub use law::{rows_have_one_table, settling_is_decided};
 pub use part::Behaviour;
 pub use phase::Phase;
 pub use port::{Nets, Port};
