@@ -1,7 +1,8 @@
 -- The parts of the tests are steady.
-use Rattle.std.proofs.Common.{◌≡◌, Bool, true, false, List, refl, arith}
-use Rattle.std.specs.Prelude.{◌&&◌, not}
-use Rattle.lg_value.specs.declared.bit.Bit.TheVariants.{One}
+use Rattle.std.proofs.Common.{◌≡◌, false, List, refl, arith}
+use Rattle.std.specs.Prelude.{◌&&◌}
+use Rattle.lg_value.specs.declared.bit.Bit.{Bit}
+use Rattle.lg_value.specs.declared.bit.Bit.TheVariants.{Zero, One, Unknown, Error}
 use Rattle.lg_value.specs.Bit.{same_bit}
 use Rattle.lg_timing.specs.Circuit.{Word, Port}
 use Rattle.lg_timing.specs.Settling.{IsSteady}
@@ -10,15 +11,17 @@ use Rattle.lg_timing.specs.Samples.{gate, flip_flop, rises, bit_in}
 pub steady_gate : (f : List Word → List Word) (inputs outputs : List Port) → IsSteady 5 (gate f inputs outputs)
 steady_gate f inputs outputs = record { least_delay = omega arith; greatest_delay = omega arith; second_step = λ state before now. refl }
 
-no_rise : (one : Bool) → (not one && one) ≡ false
-no_rise true = refl
-no_rise false = refl
+no_rise : (b : Bit) → (same_bit b Zero && same_bit b One) ≡ false
+no_rise Zero = refl
+no_rise One = refl
+no_rise Unknown = refl
+no_rise Error = refl
 
 pub steady_flip_flop : (inputs outputs : List Port) → IsSteady 5 (flip_flop inputs outputs)
 steady_flip_flop inputs outputs = record {
   least_delay = omega arith;
   greatest_delay = omega arith;
   second_step = λ state before now.
-      let still : rises now now ≡ false = no_rise (same_bit (bit_in now 1) One) in
+      let still : rises now now ≡ false = no_rise (bit_in now 1) in
       rw still refl;
 }

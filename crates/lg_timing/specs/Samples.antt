@@ -1,5 +1,5 @@
 -- The parts of the tests: gates, a constant and a flip-flop, with ports of one bit.
-use Rattle.std.specs.Prelude.{ℕ, Bool, ◌&&◌, not, List, [], ◌∷◌, slice_index_or, if◌then◌else◌}
+use Rattle.std.specs.Prelude.{ℕ, Bool, ◌&&◌, List, [], ◌∷◌, slice_index_or, if◌then◌else◌}
 use Rattle.lg_value.specs.declared.bit.Bit.{Bit}
 use Rattle.lg_value.specs.declared.bit.Bit.TheVariants.{Zero, One, Unknown, Error}
 use Rattle.lg_value.specs.Bit.{same_bit}
@@ -26,9 +26,9 @@ and_bit Error b = Error
 abbrev pub one_word : Bit → List Word
 one_word b = (b ∷ []) ∷ []
 
--- whether the second input rises
+-- whether the second input rises: from 0 to 1
 abbrev pub rises : List Word → List Word → Bool
-rises before now = not (same_bit (bit_in before 1) One) && same_bit (bit_in now 1) One
+rises before now = same_bit (bit_in before 1) Zero && same_bit (bit_in now 1) One
 
 -- a part without a state, with a delay of 1
 abbrev pub gate : (List Word → List Word) → List Port → List Port → Part

@@ -64,7 +64,7 @@ fn one_word(alloc: Global, bit: Bit) -> Result<Vec<Word>, AllocError>
 fn rises(before: &[Word], now: &[Word]) -> bool
     ensures { result ≡ rises before.now now.now }
 {
-    bit_in(before, 1) != Bit::One && bit_in(now, 1) == Bit::One
+    bit_in(before, 1) == Bit::Zero && bit_in(now, 1) == Bit::One
 }
 
 impl Behaviour for Sample {
