@@ -1,5 +1,5 @@
 -- What is due for what a file holds.
-use Rattle.std.proofs.Common.{◌≡◌, ℕ, ◌<◌, ◌≤◌, Bool, true, false, List, length, Option, Some, None, Result, Ok, Err, Vec, Global, refl, sym, ap, subst, ◌∙◌, arith, inl, inr}
+use Rattle.std.proofs.Common.{◌≡◌, ℕ, ◌≤◌, Bool, true, false, List, length, Option, Some, None, Result, Ok, Err, Vec, Global, refl, sym, subst, arith, inl, inr}
 use Rattle.std.specs.Prelude.{IfSome, nat_lt, MatchBool, codes}
 use Rattle.std.proofs.lemmas.Bool.{le-ltb}
 use Rattle.lg.specs.declared.status.Status.{Status}

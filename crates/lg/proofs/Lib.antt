@@ -1,4 +1,4 @@
 pub mod Written
-pub mod OneSheetLemmas
-pub mod OneNot
 pub mod Dues
+pub mod OneSheetLemmas
+pub mod Limits

@@ -1,12 +1,16 @@
 -- What is due for some words and some files: a text, or the first stop in the order of the verb's steps.
-use Rattle.std.specs.Prelude.{◌≡◌, ℕ, ◌<◌, ◌≤◌, List, [], ◌∷◌, ◌++◌, length, Option, Some, None, nat_lt, MatchBool, codes, ◌⊎◌}
+use Rattle.std.specs.Prelude.{◌≡◌, ℕ, List, ◌++◌, length, Option, Some, None, nat_lt, MatchBool, codes}
+use Rattle.std.specs.List.{AllByRecursion}
 use Rattle.lg.specs.declared.status.Status.{Status}
 use Rattle.lg.specs.declared.status.Status.TheVariants.{Usage, Input}
 use Rattle.lg_circ.specs.declared.project.Project.{Project}
 use Rattle.lg_circ.specs.Plain.{IsPlainProject}
 use Rattle.lg_export.specs.Agreement.{Agrees}
+use Rattle.lg_export.specs.InTime.{AgreesOnRows}
 use Rattle.lg_export.specs.Layout.{module_of}
 use Rattle.lg_netlist.specs.declared.netlist.Netlist.{Netlist}
+use Rattle.lg_netlist.specs.Static.{input_pins, IsDefinedRow}
+use Rattle.lg_timing.specs.Circuit.{Word}
 use Rattle.lg_verilog.specs.Printed.{module_text}
 use Rattle.lg.specs.OneSheet.{IsBuilt}
 use Rattle.lg.specs.Words.{Command, Export, command_of}
@@ -39,7 +43,7 @@ pub record IsModuleText (bytes text : List ℕ) : Type 0 where
   pub built : IsBuilt project netlist
   pub printed : text ≡ module_text (module_of netlist)
 
--- the text is that of a module which agrees with the netlist of the project in the bytes
+-- the text is that of a module which agrees with the netlist of the project in the bytes, without time and in time
 pub record IsAgreedText (bytes text : List ℕ) : Type 0 where
   pub project : Project
   pub netlist : Netlist
@@ -47,6 +51,8 @@ pub record IsAgreedText (bytes text : List ℕ) : Type 0 where
   pub built : IsBuilt project netlist
   pub printed : text ≡ module_text (module_of netlist)
   pub agrees : Agrees netlist (module_of netlist)
+  -- each list of rows of defined inputs has one session table at the project's limit
+  pub in_time : (rows : List (List Word)) → AllByRecursion (IsDefinedRow (input_pins netlist)) rows → AgreesOnRows netlist (module_of netlist) project.limit rows
 
 -- the text of the module, or NotBuilt where there is none
 abbrev pub IsModuleDue : List ℕ → List ℕ → Due → Type 0

@@ -1,5 +1,5 @@
 -- What the steps of `export` answer, by what is due.
-use Rattle.std.specs.Prelude.{◌≡◌, ℕ, ◌<◌, ◌≤◌, List, length, Option, Some, None, Result, Ok, Err, Vec, ⊤, IfSome}
+use Rattle.std.specs.Prelude.{◌≡◌, ℕ, ◌<◌, ◌≤◌, List, length, Option, Some, Result, Ok, Err, Vec, ⊤, IfSome}
 use Rattle.std.specs.declared.alloc.Global.{Global}
 use Rattle.lg_io.specs.Fault.{HasRisen}
 use Rattle.lg_io.specs.Sink.{TookPrefix}
@@ -7,7 +7,7 @@ use Rattle.lg.specs.declared.status.Status.TheVariants as status
 use Rattle.lg.specs.declared.stop.Refusal.TheVariants.{Missing, TooLong, NotBuilt}
 use Rattle.lg.specs.declared.stop.Stop.{Stop}
 use Rattle.lg.specs.declared.stop.Stop.TheVariants as stop
-use Rattle.lg.specs.Due.{Held, Text, Stop as Stops, IsModuleText, IsAgreedText, IsExportDue, longest_project, input_line}
+use Rattle.lg.specs.Due.{Held, Stop as Stops, IsModuleText, IsAgreedText, IsExportDue, longest_project, input_line}
 use Rattle.lg.specs.Lines.{refusal_text}
 use Rattle.lg.specs.Outcome.{Took}
 

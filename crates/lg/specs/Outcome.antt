@@ -1,12 +1,12 @@
 -- What a run leaves: its status, what the output took, and its line.
-use Rattle.std.specs.Prelude.{◌≡◌, ℕ, List, [], ◌∷◌, ◌++◌, Option, Some, None, option_map, Result, Ok, Err, ⊤, codes, ◌⊎◌}
+use Rattle.std.specs.Prelude.{◌≡◌, ℕ, List, [], ◌++◌, Option, Some, None, option_map, Result, Ok, Err, ⊤, codes, ◌⊎◌}
 use Rattle.lg_io.specs.Fault.{HasRisen}
 use Rattle.lg_io.specs.Sink.{TookPrefix}
 use Rattle.lg_io.specs.declared.fault.SinkFault.{SinkFault}
 use Rattle.lg.specs.declared.status.Status.{Status}
 use Rattle.lg.specs.declared.status.Status.TheVariants as status
 use Rattle.lg.specs.Due.{Held, Due, Text, Stop, IsDue, IsAgreedText, usage_line, input_line}
-use Rattle.lg.specs.Words.{Command, Export, command_of}
+use Rattle.lg.specs.Words.{Export, command_of}
 
 -- the exit status
 abbrev pub code_of : Status → ℕ

@@ -1,6 +1,10 @@
 //! `lg`: simulates, tests, exports and marks circuits that digital design classes draw.
 #![tactic(auto)]
 
+ghost use Rattle.std.specs.Prelude.{◌≡◌, []};
+ghost use Rattle.lg.specs.Outcome.{Said};
+ghost use Rattle.lg.specs.Lines.{status_of, line_of};
+
 mod export;
 mod one_sheet;
 mod run;
@@ -8,7 +12,7 @@ mod status;
 mod stop;
 mod words;
 
-use lg_io::{HostFiles, StdSink};
+use lg_io::{HostFiles, Sink, StdSink};
 use run::run;
 use status::Status;
 use std::env;
@@ -41,7 +45,11 @@ fn main(rt: HostRuntime) -> ExitCode {
     ExitCode::from(status.code())
 }
 
-fn stopped<E: lg_io::Sink>(stop: Stop, err: &mut E) -> Status {
+// Says the line of a stop before any command was read.
+fn stopped<E: Sink>(stop: Stop, err: &mut E) -> Status
+    ensures status { result ≡ status_of stop }
+    ensures said { Said (E.taken err.old) (E.taken err.new) (E.faults err.old) (E.faults err.new) (line_of stop []) }
+{
     stop.say("", err);
     stop.status()
 }

@@ -27,7 +27,8 @@ pub fn run<F: Files, O: Sink, E: Sink>(
     // Where the files tell what they hold, the output has taken the due text and nothing else ..
     ensures done { result ≡ Status.Done →
         IfSome (F.held files.old) (λ held. WroteDue (map string_bytes words.now) held (O.taken out.old) (O.taken out.new)) }
-    // .. which is that of a module whose outputs are the static values on each row of defined inputs.
+    // .. which is that of a module whose outputs are the static values on each row of defined inputs; and each list of such
+    // rows has exactly one session table, in which each row settles in at most one instant, on the module's outputs.
     ensures agrees { result ≡ Status.Done →
         IfSome (F.held files.old) (λ held. WroteAgreed (map string_bytes words.now) held (O.taken out.old) (O.taken out.new)) }
 

@@ -20,6 +20,25 @@ const Y: &str =
 const MODULE: &str =
     "module c_main(\n  input wire i_A,\n  output wire o_Y\n);\n  wire x0_0;\n  wire w0_0;\n  assign x0_0 = i_A;\n  assign w0_0 = (~x0_0);\n  assign o_Y = w0_0;\nendmodule\n";
 
+const EMPTY: &str = "module c_main(\n);\nendmodule\n";
+
+const ONE_INPUT: &str = "module c_main(\n  input wire i_A\n);\nendmodule\n";
+
+const JOINED: &str =
+    "module c_main(\n  input wire i_A,\n  output wire o_Y\n);\n  assign o_Y = i_A;\nendmodule\n";
+
+const CROSSING: &str =
+    "module c_main(\n  input wire i_A,\n  input wire i_B,\n  output wire o_X,\n  output wire o_Z\n);\n  assign o_X = i_A;\n  assign o_Z = i_B;\nendmodule\n";
+
+const MEETING: &str =
+    "module c_main(\n  input wire i_A,\n  output wire o_X,\n  output wire o_Z\n);\n  assign o_X = i_A;\n  assign o_Z = i_A;\nendmodule\n";
+
+const UNREAD: &str =
+    "module c_main(\n  input wire i_A\n);\n  wire x0_0;\n  wire w0_0;\n  assign x0_0 = i_A;\n  assign w0_0 = (~x0_0);\nendmodule\n";
+
+const TWO_GATES: &str =
+    "module c_main(\n  input wire i_A,\n  input wire i_B,\n  output wire o_X,\n  output wire o_Y\n);\n  wire x0_0;\n  wire x0_1;\n  wire w0_0;\n  wire x1_0;\n  wire x1_1;\n  wire w1_0;\n  assign x0_0 = i_A;\n  assign x0_1 = i_B;\n  assign w0_0 = (x0_0 | x0_1);\n  assign x1_0 = i_A;\n  assign x1_1 = i_B;\n  assign w1_0 = (x1_0 & x1_1);\n  assign o_X = w0_0;\n  assign o_Y = w1_0;\nendmodule\n";
+
 const NOT_BUILT: &str = "lg: input: p.circ: NotBuilt\n";
 
 const USAGE: &str = "lg: usage: lg VERB [OPTIONS] ARGUMENTS\n";
@@ -55,68 +74,176 @@ fn sink(alloc: Global, piece: usize, fails: Vec<u64>) -> Result<MemSink, Fail>
     Ok(sink)
 }
 
+// How `lg export` ends for a project with these components and wires, and what it wrote.
+fn exported(alloc: Global, sheet: &str) -> Result<(Status, MemSink, MemSink), Fail> {
+    let project = project(alloc, sheet)?;
+    let mut files = one_file(alloc, project.as_str(), Vec::new(alloc))?;
+    let mut out = sink(alloc, 64, Vec::new(alloc))?;
+    let mut err = sink(alloc, 64, Vec::new(alloc))?;
+    let words = words(alloc, &["export", "p.circ"])?;
+    let ended = run(alloc, words.as_slice(), &mut files, &mut out, &mut err);
+    Ok((ended, out, err))
+}
+
+fn input(alloc: Global, label: &str, at: &str) -> Result<String, AllocError> {
+    format!(in alloc;
+        "<comp lib=\"0\" loc=\"({at})\" name=\"Pin\"><a name=\"label\" val=\"{label}\"/></comp>"
+    )
+}
+
+fn output(alloc: Global, label: &str, at: &str) -> Result<String, AllocError> {
+    format!(in alloc;
+        "<comp lib=\"0\" loc=\"({at})\" name=\"Pin\"><a name=\"output\" val=\"true\"/><a name=\"label\" val=\"{label}\"/></comp>"
+    )
+}
+
+fn gate(alloc: Global, kind: &str, size: &str, at: &str) -> Result<String, AllocError> {
+    format!(in alloc;
+        "<comp lib=\"1\" loc=\"({at})\" name=\"{kind} Gate\"><a name=\"size\" val=\"{size}\"/></comp>"
+    )
+}
+
+fn wire(alloc: Global, from: &str, to: &str) -> Result<String, AllocError> {
+    format!(in alloc; "<wire from=\"({from})\" to=\"({to})\"/>")
+}
+
 #[test]
-fn projects_are_exported_or_not_built(rt: HostRuntime) -> Result<(), Fail> {
+fn one_not_gate_in_any_order(rt: HostRuntime) -> Result<(), Fail> {
     let alloc = rt.alloc();
-    let second = "<comp lib=\"1\" loc=\"(160,60)\" name=\"NOT Gate\"/>";
-    let small =
-        "<comp lib=\"1\" loc=\"(120,60)\" name=\"NOT Gate\"><a name=\"size\" val=\"20\"/></comp>";
-    let near =
-        "<comp lib=\"0\" loc=\"(120,60)\" name=\"Pin\"><a name=\"label\" val=\"Y\"/><a name=\"output\" val=\"true\"/></comp>";
+    let small = gate(alloc, "NOT", "20", "120,60")?;
+    let near = output(alloc, "Y", "120,60")?;
     let table = [
-        (
-            format!(in alloc; "\n{A}\n{NOT}\n{Y}\n")?,
-            Status::Done,
-            MODULE,
-            "",
-        ),
-        (format!(in alloc; "{Y}{NOT}{A}")?, Status::Done, MODULE, ""),
-        (format!(in alloc; "{NOT}{Y}{A}")?, Status::Done, MODULE, ""),
-        (
-            format!(in alloc; "{small}{A}{near}")?,
-            Status::Done,
-            MODULE,
-            "",
-        ),
-        (format!(in alloc; "")?, Status::Input, "", NOT_BUILT),
-        (
-            format!(in alloc; "{A}{NOT}{second}{Y}")?,
-            Status::Input,
-            "",
-            NOT_BUILT,
-        ),
-        (format!(in alloc; "{A}{NOT}")?, Status::Input, "", NOT_BUILT),
-        (
-            format!(in alloc; "{A}{second}{Y}")?,
-            Status::Input,
-            "",
-            NOT_BUILT,
-        ),
-        (
-            format!(in alloc; "<!-- none -->{A}{NOT}{Y}")?,
-            Status::Input,
-            "",
-            NOT_BUILT,
-        ),
+        format!(in alloc; "\n{A}\n{NOT}\n{Y}\n")?,
+        format!(in alloc; "{Y}{NOT}{A}")?,
+        format!(in alloc; "{NOT}{Y}{A}")?,
+        format!(in alloc; "{small}{A}{near}")?,
     ];
-    for (comps, status, text, line) in &table {
-        let mut files = one_file(
-            alloc,
-            project(alloc, comps.as_str())?.as_str(),
-            Vec::new(alloc),
-        )?;
-        let mut out = sink(alloc, 64, Vec::new(alloc))?;
-        let mut err = sink(alloc, 64, Vec::new(alloc))?;
-        let ended = run(
-            alloc,
-            words(alloc, &["export", "p.circ"])?.as_slice(),
-            &mut files,
-            &mut out,
-            &mut err,
-        );
-        assert_eq!(rt; ended, *status, "{comps}");
-        assert_eq!(rt; out.taken(), text.as_bytes(), "{comps}");
-        assert_eq!(rt; err.taken(), line.as_bytes(), "{comps}");
+    for sheet in &table {
+        let (ended, out, err) = exported(alloc, sheet.as_str())?;
+        assert_eq!(rt; ended, Status::Done, "{sheet}");
+        assert_eq!(rt; out.taken(), MODULE.as_bytes(), "{sheet}");
+        assert!(rt; err.taken().is_empty());
+    }
+    Ok(())
+}
+
+#[test]
+fn pins_are_joined_at_points_and_by_wires(rt: HostRuntime) -> Result<(), Fail> {
+    let alloc = rt.alloc();
+    let a = input(alloc, "A", "0,10")?;
+    let b = input(alloc, "B", "20,0")?;
+    let x = output(alloc, "X", "40,10")?;
+    let z = output(alloc, "Z", "20,40")?;
+    let here = output(alloc, "Y", "0,10")?;
+    let level = wire(alloc, "0,10", "40,10")?;
+    let upright = wire(alloc, "20,0", "20,40")?;
+    let stem = wire(alloc, "20,10", "20,40")?;
+    let dot = wire(alloc, "0,10", "0,10")?;
+    let table = [
+        (format!(in alloc; "")?, EMPTY),
+        (format!(in alloc; "{a}")?, ONE_INPUT),
+        (format!(in alloc; "{a}{here}")?, JOINED),
+        (format!(in alloc; "{dot}{a}{here}")?, JOINED),
+        (format!(in alloc; "{a}{b}{x}{z}{level}{upright}")?, CROSSING),
+        (format!(in alloc; "{a}{x}{z}{level}{stem}")?, MEETING),
+    ];
+    for (sheet, module) in &table {
+        let (ended, out, _) = exported(alloc, sheet.as_str())?;
+        assert_eq!(rt; ended, Status::Done, "{sheet}");
+        assert_eq!(rt; out.taken(), module.as_bytes(), "{sheet}");
+    }
+    Ok(())
+}
+
+#[test]
+fn gates_are_numbered_in_file_order(rt: HostRuntime) -> Result<(), Fail> {
+    let alloc = rt.alloc();
+    let a = input(alloc, "A", "0,10")?;
+    let b = input(alloc, "B", "0,50")?;
+    let or = gate(alloc, "OR", "50", "50,30")?;
+    let and = gate(alloc, "AND", "30", "130,20")?;
+    let wires = format!(in alloc;
+        "{}{}{}",
+        wire(alloc, "0,10", "100,10")?,
+        wire(alloc, "0,50", "100,50")?,
+        wire(alloc, "100,30", "100,50")?
+    )?;
+    let x = output(alloc, "X", "50,30")?;
+    let y = output(alloc, "Y", "130,20")?;
+    let (ended, out, _) = exported(
+        alloc,
+        format!(in alloc; "{a}{b}{or}{and}{x}{y}{wires}")?.as_str(),
+    )?;
+    assert_eq!(rt; ended, Status::Done);
+    assert_eq!(rt; out.taken(), TWO_GATES.as_bytes());
+    Ok(())
+}
+
+#[test]
+fn a_gate_that_nothing_reads_is_exported(rt: HostRuntime) -> Result<(), Fail> {
+    let alloc = rt.alloc();
+    let (ended, out, _) = exported(alloc, format!(in alloc; "{A}{NOT}")?.as_str())?;
+    assert_eq!(rt; ended, Status::Done);
+    assert_eq!(rt; out.taken(), UNREAD.as_bytes());
+    Ok(())
+}
+
+#[test]
+fn pins_are_named_by_their_labels(rt: HostRuntime) -> Result<(), Fail> {
+    let alloc = rt.alloc();
+    let spaced = input(alloc, " a b ", "0,10")?;
+    let dashed = input(alloc, "a-b", "0,20")?;
+    let empty = input(alloc, "", "0,30")?;
+    let sheet = format!(in alloc; "{spaced}{dashed}{empty}")?;
+    let (ended, out, _) = exported(alloc, sheet.as_str())?;
+    assert_eq!(rt; ended, Status::Done);
+    let module =
+        "module c_main(\n  input wire i_a_b,\n  input wire i_a_b_2,\n  input wire i_pin\n);\nendmodule\n";
+    assert_eq!(rt; out.taken(), module.as_bytes());
+
+    let label = "a".repeat(alloc, 300)?;
+    let (ended, out, _) = exported(alloc, input(alloc, label.as_str(), "0,10")?.as_str())?;
+    assert_eq!(rt; ended, Status::Done);
+    let name = "a".repeat(alloc, 256)?;
+    let module = format!(in alloc; "module c_main(\n  input wire i_{name}\n);\nendmodule\n")?;
+    assert_eq!(rt; out.taken(), module.as_bytes());
+    Ok(())
+}
+
+#[test]
+fn other_sheets_are_not_built(rt: HostRuntime) -> Result<(), Fail> {
+    let alloc = rt.alloc();
+    let second = gate(alloc, "NOT", "30", "160,60")?;
+    let third = input(alloc, "B", "100,60")?;
+    let skew = wire(alloc, "0,0", "10,20")?;
+    let odd = gate(alloc, "NOT", "25", "130,60")?;
+    let nand = gate(alloc, "NAND", "50", "130,60")?;
+    let and = gate(alloc, "AND", "30", "130,60")?;
+    let wide = "<comp lib=\"0\" loc=\"(0,0)\" name=\"Pin\"><a name=\"width\" val=\"1\"/></comp>";
+    let table = [
+        // A gate that reads a gate.
+        format!(in alloc; "{A}{NOT}{second}{Y}")?,
+        // An output pin that nothing drives.
+        format!(in alloc; "{Y}")?,
+        // A gate's input to which nothing is attached.
+        format!(in alloc; "{A}{second}")?,
+        format!(in alloc; "{A}{and}{Y}")?,
+        // Two input pins at one point.
+        format!(in alloc; "{A}{third}")?,
+        // A gate's output on an input pin.
+        format!(in alloc; "{NOT}{A}{third}")?,
+        // What no point allows.
+        format!(in alloc; "{A}{skew}")?,
+        format!(in alloc; "{A}{odd}{Y}")?,
+        format!(in alloc; "{nand}")?,
+        format!(in alloc; "{wide}")?,
+        format!(in alloc; "<!-- none -->{A}{NOT}{Y}")?,
+    ];
+    for sheet in &table {
+        let (ended, out, err) = exported(alloc, sheet.as_str())?;
+        assert_eq!(rt; ended, Status::Input, "{sheet}");
+        assert!(rt; out.taken().is_empty());
+        assert_eq!(rt; err.taken(), NOT_BUILT.as_bytes(), "{sheet}");
     }
     Ok(())
 }

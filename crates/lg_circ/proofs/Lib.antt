@@ -8,3 +8,4 @@ pub mod Numbers
 pub mod Each
 pub mod Plainness
 pub mod Whole
+pub mod Few

@@ -1,6 +1,6 @@
 //! Plain projects, read from their text.
 
-ghost use Rattle.std.specs.Prelude.{List, ℕ, ◌≡◌, ◌<◌, ◌≤◌, ◌↔◌, length, IfOk, OnOk, IsErrOf};
+ghost use Rattle.std.specs.Prelude.{List, ℕ, ◌≡◌, ◌+◌, ◌<◌, ◌≤◌, ◌↔◌, length, All, IfOk, OnOk, IsErrOf};
 ghost use Rattle.lg_circ.specs.declared.element.Element.{Element};
 ghost use Rattle.lg_circ.specs.Grammar.{SpellsText};
 ghost use Rattle.lg_circ.specs.Plain.{IsPlainProject, ReadsAs};
@@ -22,6 +22,7 @@ pub fn read_project(alloc: Global, bytes: &[u8]) -> Result<Project, CircFault>
     // What is read is what a plain project says.
     ensures found { IfOk result (λ p. IsPlainProject bytes.now p) }
     ensures within { OnOk result (length bytes.now ≤ 8388608) }
+    ensures few { IfOk result (λ project. All (λ sheet. length sheet.comps + length sheet.wires ≤ length bytes.now) project.sheets) }
     // A plain project is read as what it says, unless memory runs out.
     // So a text says at most one project.
     ensures only { (p : Project) →

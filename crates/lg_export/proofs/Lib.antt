@@ -1,3 +1,16 @@
 pub mod LayoutLemmas
 pub mod NameLemmas
-pub mod NotGate
+pub mod Forms
+pub mod WireNames
+pub mod Simple
+pub mod Driving
+pub mod Ordered
+pub mod Declared
+pub mod Gates
+pub mod Agreeing
+pub mod PlaceLemmas
+pub mod LaidOut
+pub mod OneNot
+pub mod NetBits
+pub mod SettlesSoon
+pub mod Tables

@@ -10,7 +10,7 @@ use Rattle.std.proofs.lemmas.List.Folds.{list_all-append}
 use Rattle.lg_netlist.specs.Names.{name_of_label, or_pin, cleaned_byte, trimmed}
 use Rattle.lg_netlist.specs.Names as netlist
 use Rattle.lg_verilog.specs.Token.{is_between, is_letter, is_digit_or_score, is_word, is_name}
-use Rattle.lg_export.specs.OneGate.{is_pin_name}
+use Rattle.lg_netlist.specs.Valid.{is_pin_name}
 
 both : (a b : Bool) → a ≡ true → b ≡ true → (a && b) ≡ true
 both a b h k = rw (h, k) refl

@@ -1,4 +1,6 @@
 pub mod Layout
-pub mod OneGate
 pub mod Readable
+pub mod Places
 pub mod Agreement
+pub mod InTime
+pub mod OneNot

@@ -6,7 +6,7 @@ use Rattle.lg_netlist.specs.declared.netlist.PinUse.{PinUse}
 use Rattle.lg_netlist.specs.declared.netlist.Netlist.{Netlist}
 use Rattle.lg_netlist.specs.Static.{data_pins, output_pins}
 use Rattle.lg_export.specs.Layout.{drivers, attached}
-use Rattle.lg_export.specs.OneGate.{is_pin_name}
+use Rattle.lg_netlist.specs.Valid.{is_pin_name}
 
 -- a module can spell the pin's name
 abbrev pub IsNamed : PinUse → Type 0
@@ -26,8 +26,9 @@ pub record IsFed (drivers : List (ℕ × List ℕ)) (part : PartUse) : Type 0 wh
   pub has_input : 0 < length (attached part)
   pub driven : All (λ bits. 0 < length bits → IsDriven drivers (slice_index bits 0)) part.inputs
 
--- each pin can be named, each part is fed, and each output pin can be read
+-- each pin can be named, drivers are on nets that exist, each part is fed, and each output pin can be read
 pub record CanBeLaidOut (n : Netlist) : Type 0 where
   pub named : All IsNamed (data_pins n)
+  pub within : All (λ (d : ℕ × List ℕ). d.0 < n.nets) (drivers n)
   pub fed : All (IsFed (drivers n)) n.parts
   pub read : All (λ pin. IsReadable (drivers n) pin.bits) (output_pins n)

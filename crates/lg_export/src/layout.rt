@@ -1,14 +1,16 @@
 //! The module of a netlist, as a whole.
 
-ghost use Rattle.std.specs.Prelude.{◌≡◌, All, IfOk};
+ghost use Rattle.std.specs.Prelude.{◌≡◌, All, IfOk, IsTrue};
 ghost use Rattle.std.specs.List.{flat_map};
 ghost use Rattle.lg_netlist.specs.Static.{data_pins};
 ghost use Rattle.lg_export.specs.Layout.{numbered, part_decls, module_ports, module_assigns, module_of};
-ghost use Rattle.lg_export.specs.OneGate.{IsNotBetweenPins};
+ghost use Rattle.lg_netlist.specs.Valid.{IsValid};
+ghost use Rattle.lg_netlist.specs.OneGate.{is_one_gate};
 ghost use Rattle.lg_export.specs.Readable.{IsNamed, CanBeLaidOut};
 ghost use Rattle.lg_export.specs.Agreement.{Agrees};
+ghost use Rattle.lg_export.specs.InTime.{AgreesInTime};
 
-use crate::drivers::{bits_value, drivers};
+use crate::drivers::Drivers;
 use crate::fault::NotAccepted;
 use crate::names::{input_name, module_name, output_name};
 use crate::parts::{put_assigns, put_decls};
@@ -21,12 +23,15 @@ use std::alloc::{AllocError, Global};
 /// The module of a netlist: a port `i_NAME` or `o_NAME` for each pin, a wire `xP_I` at each attached input I and `wP_O`
 /// at each output O of part P, and an equation for each of these wires and for each output port.
 pub fn export(alloc: Global, netlist: &Netlist) -> Result<Module, NotAccepted>
-    // So far: one NOT gate between two pins.
-    requires { IsNotBetweenPins netlist.now }
+    requires valid { IsValid netlist.now }
+    // So far: each gate reads input pins alone.
+    requires one_gate { IsTrue (is_one_gate netlist.now) }
     // Each part has its own wires and equations.
     ensures layout { IfOk result (λ m. m ≡ module_of netlist.now) }
     // On each row of defined inputs the module has exactly one solution, and its outputs are the static values.
     ensures agrees { IfOk result (λ m. Agrees netlist.now m) }
+    // Each list of such rows has exactly one session table, in which each row settles in at most one instant, on these outputs.
+    ensures in_time { IfOk result (λ m. AgreesInTime netlist.now m) }
 {
     Ok(laid_out(alloc, netlist)?)
 }
@@ -84,15 +89,15 @@ fn assigns(alloc: Global, netlist: &Netlist) -> Result<Items<Assign>, AllocError
     requires { CanBeLaidOut netlist.now }
     ensures { IfOk result (λ assigns. assigns ≡ module_assigns netlist.now) }
 {
-    let drivers = drivers(alloc, netlist)?;
+    let drivers = Drivers::of(alloc, netlist)?;
     let mut assigns = Items::new(alloc);
     for (part, used) in netlist.parts.as_slice().iter().enumerate() {
-        put_assigns(alloc, &mut assigns, drivers.as_slice(), part, used)?;
+        put_assigns(alloc, &mut assigns, &drivers, part, used)?;
     }
     let outputs = output_pins(alloc, netlist)?;
     for pin in &outputs {
         let name = output_name(alloc, pin)?;
-        let value = bits_value(alloc, drivers.as_slice(), pin.bits.as_slice())?;
+        let value = drivers.bits_value(alloc, pin.bits.as_slice())?;
         assigns.push(Assign { name, value })?;
     }
     Ok(assigns)

@@ -5,7 +5,7 @@ ghost use Rattle.lg_verilog.specs.declared.module.Expr.TheVariants.{Whole};
 ghost use Rattle.lg_export.specs.Layout.{input_wire, attached, part_decls, part_assigns, first_of, joined, equation};
 ghost use Rattle.lg_export.specs.Readable.{IsFed};
 
-use crate::drivers::{Driver, bits_value};
+use crate::drivers::Drivers;
 use crate::names::{input_wire, output_wire};
 use lg_netlist::{Cell, PartUse};
 use lg_verilog::{Assign, Decl, Expr, Operator};
@@ -38,7 +38,7 @@ pub fn put_decls(
 pub fn put_assigns(
     alloc: Global,
     assigns: &mut Items<Assign>,
-    drivers: &[Driver],
+    drivers: &Drivers,
     part: usize,
     used: &PartUse,
 ) -> Result<(), AllocError>
@@ -48,7 +48,7 @@ pub fn put_assigns(
     for (input, bits) in used.inputs.as_slice().iter().enumerate() {
         if !bits.is_empty() {
             let name = input_wire(alloc, part, input)?;
-            let value = bits_value(alloc, drivers, bits.as_slice())?;
+            let value = drivers.bits_value(alloc, bits.as_slice())?;
             assigns.push(Assign { name, value })?;
         }
     }

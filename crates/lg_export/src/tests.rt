@@ -1,7 +1,7 @@
 //! What is exported, as text.
 
 ghost use Rattle.std.specs.Prelude.{◌≡◌, [], ◌∷◌, IfOk};
-ghost use Rattle.lg_export.specs.OneGate.{IsNotBetweenPins};
+ghost use Rattle.lg_export.specs.OneNot.{not_gate, pin, one_not};
 
 use crate::layout::export;
 use lg_netlist::{Cell, Netlist, PartUse, PinUse};
@@ -22,10 +22,10 @@ fn one_not_gate_between_pins(rt: HostRuntime) -> Result<(), Fail> {
 }
 
 fn one_not_gate(alloc: Global) -> Result<Netlist, AllocError>
-    ensures { IfOk result (λ netlist. IsNotBetweenPins netlist) }
+    ensures { IfOk result (λ netlist. netlist ≡ one_not) }
 {
     let mut parts = Items::new(alloc);
-    parts.push(not_gate(alloc, 0, 1)?)?;
+    parts.push(not_gate(alloc)?)?;
     let mut pins = Items::new(alloc);
     pins.push(pin(alloc, "A", true, 0)?)?;
     pins.push(pin(alloc, "Y", false, 1)?)?;
@@ -39,16 +39,14 @@ fn one_not_gate(alloc: Global) -> Result<Netlist, AllocError>
     })
 }
 
-fn not_gate(alloc: Global, from: u32, to: u32) -> Result<PartUse, AllocError>
-    ensures cell { IfOk result (λ part. part.cell ≡ Cell.Not) }
-    ensures inputs { IfOk result (λ part. part.inputs ≡ (from ∷ []) ∷ []) }
-    ensures outputs { IfOk result (λ part. part.outputs ≡ (to ∷ []) ∷ []) }
+fn not_gate(alloc: Global) -> Result<PartUse, AllocError>
+    ensures { IfOk result (λ part. part ≡ not_gate) }
 {
     Ok(PartUse {
         name: Text::copy_of(alloc, "main(130,60) NOT Gate")?,
         cell: Cell::Not,
-        inputs: ports(alloc, from)?,
-        outputs: ports(alloc, to)?,
+        inputs: ports(alloc, 0)?,
+        outputs: ports(alloc, 1)?,
     })
 }
 
@@ -61,9 +59,7 @@ fn ports(alloc: Global, net: u32) -> Result<Items<Items<u32>>, AllocError>
 }
 
 fn pin(alloc: Global, name: &str, input: bool, net: u32) -> Result<PinUse, AllocError>
-    ensures name { IfOk result (λ pin. pin.name ≡ name.now) }
-    ensures input { IfOk result (λ pin. pin.input ≡ input) }
-    ensures bits { IfOk result (λ pin. pin.bits ≡ net ∷ []) }
+    ensures { IfOk result (λ made. made ≡ pin name.now input net) }
 {
     Ok(PinUse {
         name: Text::copy_of(alloc, name)?,

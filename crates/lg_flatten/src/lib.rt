@@ -1,6 +1,7 @@
 //! The flat netlist of a sheet: what its components are, and the parts, pins and nets that they make.
 #![tactic(auto)]
 
+mod bits;
 mod flat;
 mod labels;
 mod parts;

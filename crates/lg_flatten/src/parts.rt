@@ -1,6 +1,6 @@
 //! The parts of a netlist.
 
-ghost use Rattle.std.specs.Prelude.{◌≡◌, ◌≤◌, [], ◌∷◌, ◌++◌, length, map, IfOk, OnOk};
+ghost use Rattle.std.specs.Prelude.{◌≡◌, ◌≤◌, ◌++◌, length, IfOk, OnOk};
 ghost use Rattle.std.specs.List.{flat_map, zip};
 ghost use Rattle.lg_flatten.specs.Uses.{port_points, role_inputs};
 ghost use Rattle.lg_flatten.specs.Flat.{role_part, parts_of};
@@ -13,19 +13,19 @@ use lg_netlist::PartUse;
 use sqlite_items::Items;
 use std::alloc::{AllocError, Global};
 
-/// The parts that the components are, in file order, where their ports have these nets.
+/// The parts that the components are, in file order, where their ports have these net bits.
 pub fn parts(
     alloc: Global,
     circuit: &str,
     comps: &[Comp],
     roles: &[Role],
-    nets: &[u32],
+    ports: &[Items<u32>],
 ) -> Result<Items<PartUse>, AllocError>
-    requires { length nets.now ≡ length (flat_map port_points (zip comps.now roles.now)) }
-    ensures { IfOk result (λ parts. parts ≡ parts_of circuit.now (zip comps.now roles.now) nets.now) }
+    requires { length ports.now ≡ length (flat_map port_points (zip comps.now roles.now)) }
+    ensures { IfOk result (λ parts. parts ≡ parts_of circuit.now (zip comps.now roles.now) ports.now) }
 {
     let mut parts = Items::new(alloc);
-    let mut rest = nets;
+    let mut rest = ports;
     for (comp, role) in comps.iter().zip(roles) {
         let (own, after) = rest.split_at(port_count(*role));
         put_part(alloc, &mut parts, circuit, comp, *role, own)?;
@@ -40,31 +40,30 @@ fn put_part(
     circuit: &str,
     comp: &Comp,
     role: Role,
-    nets: &[u32],
+    ports: &[Items<u32>],
 ) -> Result<(), AllocError>
-    requires { length (role_inputs comp.now.loc role) ≤ length nets.now }
+    requires { length (role_inputs comp.now.loc role) ≤ length ports.now }
     ensures { OnOk result (parts.new ≡
-        parts.old ++ role_part circuit.now comp.now (length (role_inputs comp.now.loc role)) nets.now role) }
+        parts.old ++ role_part circuit.now comp.now (length (role_inputs comp.now.loc role)) ports.now role) }
 {
     if let Role::Gate { cell, .. } = role {
-        let (inputs, outputs) = nets.split_at(input_count(role));
+        let (inputs, outputs) = ports.split_at(input_count(role));
         parts.push(PartUse {
             name: use_name(alloc, circuit, comp)?,
             cell,
-            inputs: single(alloc, inputs)?,
-            outputs: single(alloc, outputs)?,
+            inputs: copies(alloc, inputs)?,
+            outputs: copies(alloc, outputs)?,
         })?;
     }
     Ok(())
 }
 
-// One port of one bit for each net.
-fn single(alloc: Global, nets: &[u32]) -> Result<Items<Items<u32>>, AllocError>
-    ensures { IfOk result (λ ports. ports ≡ map (λ net. net ∷ []) nets.now) }
+fn copies(alloc: Global, ports: &[Items<u32>]) -> Result<Items<Items<u32>>, AllocError>
+    ensures { IfOk result (λ copies. copies ≡ ports.now) }
 {
-    let mut ports = Items::new(alloc);
-    for net in nets {
-        ports.push(Items::from_slice(alloc, &[*net])?)?;
+    let mut copies = Items::new(alloc);
+    for bits in ports {
+        copies.push(Items::from_slice(alloc, bits.as_slice())?)?;
     }
-    Ok(ports)
+    Ok(copies)
 }

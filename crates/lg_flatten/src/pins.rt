@@ -14,21 +14,21 @@ use lg_text::Text;
 use sqlite_items::Items;
 use std::alloc::{AllocError, Global};
 
-/// The pins that the components are, in file order, where their ports have these nets and the pins these names.
+/// The pins that the components are, in file order, where their ports have these net bits and the pins these names.
 pub fn pins(
     alloc: Global,
     circuit: &str,
     names: &[Text],
     comps: &[Comp],
     roles: &[Role],
-    nets: &[u32],
+    ports: &[Items<u32>],
 ) -> Result<Items<PinUse>, AllocError>
-    requires { length nets.now ≡ length (flat_map port_points (zip comps.now roles.now)) }
-    ensures { IfOk result (λ pins. pins ≡ pins_of circuit.now names.now (zip comps.now roles.now) nets.now) }
+    requires { length ports.now ≡ length (flat_map port_points (zip comps.now roles.now)) }
+    ensures { IfOk result (λ pins. pins ≡ pins_of circuit.now names.now (zip comps.now roles.now) ports.now) }
 {
     let mut pins = Items::new(alloc);
     let mut names = names;
-    let mut rest = nets;
+    let mut rest = ports;
     for (comp, role) in comps.iter().zip(roles) {
         let (own, after) = rest.split_at(port_count(*role));
         put_pin(alloc, &mut pins, circuit, comp, names, own, *role)?;
@@ -44,17 +44,17 @@ fn put_pin(
     circuit: &str,
     comp: &Comp,
     names: &[Text],
-    nets: &[u32],
+    ports: &[Items<u32>],
     role: Role,
 ) -> Result<(), AllocError>
-    ensures { OnOk result (pins.new ≡ pins.old ++ role_pin circuit.now comp.now names.now nets.now role) }
+    ensures { OnOk result (pins.new ≡ pins.old ++ role_pin circuit.now comp.now names.now ports.now role) }
 {
-    if let (Role::Pin { input }, [name, ..]) = (role, names) {
+    if let (Role::Pin { input }, [name, ..], [bits, ..]) = (role, names, ports) {
         pins.push(PinUse {
             name: Text::copy_of(alloc, name.as_str())?,
             place: use_name(alloc, circuit, comp)?,
             input,
-            bits: Items::from_slice(alloc, nets)?,
+            bits: Items::from_slice(alloc, bits.as_slice())?,
         })?;
     }
     Ok(())

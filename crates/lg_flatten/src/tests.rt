@@ -1,5 +1,5 @@
 use super::*;
-use lg_circ::{Attrs, Comp, Point, Sheet};
+use lg_circ::{Attrs, Comp, Point, Sheet, Wire};
 use lg_netlist::{Cell, Netlist};
 use lg_text::Text;
 use sqlite_items::Items;
@@ -142,11 +142,11 @@ fn not_sheet(alloc: Global) -> Result<Sheet, AllocError> {
     })
 }
 
-// The netlist of a sheet of things that are built, with no wires.
+// The netlist of a sheet of things that are built.
 fn flat(rt: &impl Abort, alloc: Global, sheet: &Sheet) -> Result<Netlist, AllocError> {
     let libs = libs(alloc)?;
     assert!(rt; sheet.comps.len() < 1000);
-    assert!(rt; sheet.wires.is_empty());
+    assert!(rt; sheet.wires.len() < 1000);
     let found = roles(alloc, libs.as_slice(), sheet.comps.as_slice())?.expect(rt, "roles");
     netlist(alloc, sheet, found.as_slice())
 }
@@ -215,16 +215,13 @@ fn the_inputs_of_a_gate_lie_where_it_is_drawn(rt: HostRuntime) -> Result<(), Fai
     for (name, size, x, upper, lower) in cases {
         let sheet = gate_sheet(rt.alloc(), name, size, x, upper, lower)?;
         let made = flat(&rt, rt.alloc(), &sheet)?;
-        assert_eq!(rt; made.nets, 3, "{name} of size {size}");
+        assert_eq!(rt; made.nets, 2, "{name} of size {size}");
         for part in made.parts.as_slice() {
             assert_eq!(rt;
                 nets_of(rt.alloc(), &part.inputs)?.as_slice(),
                 [0, 1].as_slice()
             );
-            assert_eq!(rt;
-                nets_of(rt.alloc(), &part.outputs)?.as_slice(),
-                [2].as_slice()
-            );
+            assert!(rt; nets_of(rt.alloc(), &part.outputs)?.is_empty());
         }
     }
     Ok(())
@@ -237,4 +234,152 @@ fn nets_of(alloc: Global, ports: &Items<Items<u32>>) -> Result<Vec<u32>, AllocEr
         nets.extend_from_slice(port.as_slice())?;
     }
     Ok(nets)
+}
+
+// Stands for no component, and for no wire, in a table.
+const NOTHING: (&str, i32, i32) = ("", 0, 0);
+
+const NO_WIRE: (i32, i32, i32, i32) = (0, 0, 0, 0);
+
+fn drawn(
+    alloc: Global,
+    comps: [(&str, i32, i32); 4],
+    wires: [(i32, i32, i32, i32); 2],
+) -> Result<Sheet, AllocError> {
+    let mut sheet = Sheet {
+        name: Text::copy_of(alloc, "main")?,
+        comps: Items::new(alloc),
+        wires: Items::new(alloc),
+    };
+    for (kind, x, y) in comps {
+        match kind {
+            "" => {}
+            "in" => sheet.comps.push(comp(alloc, "0", "Pin", x, y, &[])?)?,
+            "out" => {
+                let settings = [("output", "true")];
+                sheet.comps.push(comp(alloc, "0", "Pin", x, y, &settings)?)?;
+            }
+            gate => sheet.comps.push(comp(alloc, "1", gate, x, y, &[])?)?,
+        }
+    }
+    for wire in wires {
+        if wire != NO_WIRE {
+            sheet.wires.push(Wire {
+                from: Point {
+                    x: wire.0,
+                    y: wire.1,
+                },
+                to: Point {
+                    x: wire.2,
+                    y: wire.3,
+                },
+            })?;
+        }
+    }
+    Ok(sheet)
+}
+
+// The net bits of parts and then of pins: `01>2` is a part with two inputs and an output, and `-` an unattached port.
+fn shown(alloc: Global, made: &Netlist) -> Result<String, AllocError> {
+    let mut text = String::new(alloc);
+    for part in made.parts.as_slice() {
+        show_ports(&mut text, part.inputs.as_slice())?;
+        text.push('>')?;
+        show_ports(&mut text, part.outputs.as_slice())?;
+        text.push(' ')?;
+    }
+    for pin in made.pins.as_slice() {
+        show_bits(&mut text, pin.bits.as_slice())?;
+    }
+    Ok(text)
+}
+
+fn show_ports(text: &mut String, ports: &[Items<u32>]) -> Result<(), AllocError> {
+    for port in ports {
+        show_bits(text, port.as_slice())?;
+    }
+    Ok(())
+}
+
+fn show_bits(text: &mut String, bits: &[u32]) -> Result<(), AllocError> {
+    match bits {
+        [] => text.push('-'),
+        [net] => text.push(char::from_digit(*net, 10).unwrap_or('?')),
+        _ => text.push('?'),
+    }
+}
+
+#[test]
+fn ports_are_on_the_nets_that_wires_make(rt: HostRuntime) -> Result<(), Fail> {
+    let cases = [
+        (
+            "two pins joined by a wire",
+            [("in", 100, 60), ("out", 200, 60), NOTHING, NOTHING],
+            [(100, 60, 200, 60), NO_WIRE],
+            (1, "00"),
+        ),
+        (
+            "two pins apart",
+            [("in", 100, 60), ("out", 200, 60), NOTHING, NOTHING],
+            [NO_WIRE, NO_WIRE],
+            (2, "01"),
+        ),
+        (
+            "an output that nothing reads",
+            [("in", 100, 60), ("NOT Gate", 130, 60), NOTHING, NOTHING],
+            [NO_WIRE, NO_WIRE],
+            (1, "0>- 0"),
+        ),
+        (
+            "an input that nothing is attached to",
+            [
+                ("AND Gate", 150, 60),
+                ("in", 100, 80),
+                ("out", 180, 60),
+                NOTHING,
+            ],
+            [(150, 60, 180, 60), NO_WIRE],
+            (2, "-0>1 01"),
+        ),
+        (
+            "a gate by itself",
+            [("OR Gate", 150, 60), NOTHING, NOTHING, NOTHING],
+            [NO_WIRE, NO_WIRE],
+            (0, "-->- "),
+        ),
+        (
+            "an end on a wire",
+            [
+                ("in", 100, 60),
+                ("out", 200, 60),
+                ("out", 150, 100),
+                NOTHING,
+            ],
+            [(100, 60, 200, 60), (150, 60, 150, 100)],
+            (1, "000"),
+        ),
+        (
+            "wires that cross",
+            [
+                ("in", 100, 60),
+                ("in", 150, 20),
+                ("out", 200, 60),
+                ("out", 150, 100),
+            ],
+            [(100, 60, 200, 60), (150, 20, 150, 100)],
+            (2, "0101"),
+        ),
+        (
+            "a wire to nowhere",
+            [("in", 100, 60), ("NOT Gate", 130, 60), NOTHING, NOTHING],
+            [(130, 60, 160, 60), NO_WIRE],
+            (2, "0>1 0"),
+        ),
+    ];
+    for (case, comps, wires, (nets, want)) in cases {
+        let made = flat(&rt, rt.alloc(), &drawn(rt.alloc(), comps, wires)?)?;
+        assert_eq!(rt; made.nets, nets, "{case}");
+        assert_eq!(rt; shown(rt.alloc(), &made)?.as_str(), want, "{case}");
+    }
+    Ok(())
 }

@@ -1,15 +1,15 @@
 -- Labels that are numbered one after the other.
-use Rattle.std.proofs.Common.{◌≡◌, ℕ, ◌+◌, ◌<◌, ◌≤◌, Bool, true, false, List, [], ◌∷◌, ◌++◌, length, get_or, set, Option, Some, None, refl, sym, ap, subst, ◌∙◌, arith, inl, inr, ◌⊎◌, below_more}
-use Rattle.std.specs.Prelude.{replicate, slice_get}
+use Rattle.std.proofs.Common.{◌≡◌, ℕ, ◌+◌, ◌<◌, ◌≤◌, List, [], ◌∷◌, ◌++◌, length, get_or, set, Option, Some, None, refl, sym, ap, subst, ◌∙◌, arith, inl, inr, ◌⊎◌, below_more}
+use Rattle.std.specs.Prelude.{replicate}
 use Rattle.std.proofs.lemmas.Bool.{cases_lt, cases_eq}
 use Rattle.std.proofs.lemmas.List.{get_or-set_same, get_or-set_other, get_or_append_left, get_or_push, get_or-replicate, get_or_past, length-append, length-replicate, length-set}
 use Rattle.std.proofs.lemmas.Option.{get_or_from_slice_get, slice_get_within}
 use Rattle.lg_netlist.specs.Numbering.{IsNumbering, NumbersNext}
 
 -- the first labels have numbers below count, and known has the number of each label among them and of no other
-pub record AreNumbered (labels : List ℕ) (done : ℕ) (known : List (Option ℕ)) (numbers : List ℕ) (count : ℕ) : Type 0 where
+pub record AreNumbered (bound : ℕ) (labels : List ℕ) (done : ℕ) (known : List (Option ℕ)) (numbers : List ℕ) (count : ℕ) : Type 0 where
   pub one_each : length numbers ≡ done
-  pub as_many : length known ≡ length labels
+  pub as_many : length known ≡ bound
   pub few : count ≤ done
   pub of_label : (i : ℕ) → i < done → get_or known (get_or labels i 0) None ≡ Some (get_or numbers i 0)
   pub below : (label n : ℕ) → get_or known label None ≡ Some n → n < count
@@ -37,14 +37,14 @@ nothing_known n label m e = by_place (cases_lt label n)
     by_place (inr past) = none_is_not m (sym e ∙ get_or_past (replicate {A = Option ℕ} n None) label None (omega (arith, length-replicate {A = Option ℕ} n None)))
 
 -- at the start nothing is known
-pub AreNumbered-start : (labels : List ℕ) (known : List (Option ℕ)) → known ≡ replicate (length labels) None → AreNumbered labels 0 known [] 0
-AreNumbered-start labels known e = record {
+pub AreNumbered-start : (bound : ℕ) (labels : List ℕ) (known : List (Option ℕ)) → known ≡ replicate bound None → AreNumbered bound labels 0 known [] 0
+AreNumbered-start bound labels known e = record {
   one_each = refl;
-  as_many = ap length e ∙ length-replicate (length labels) None;
+  as_many = ap length e ∙ length-replicate bound None;
   few = omega arith;
   of_label = λ i less. absurd (omega arith);
-  below = λ label n h. absurd (nothing_known (length labels) label n (subst (λ (k : List (Option ℕ)). get_or k label None ≡ some n) e h));
-  one_label = λ a b n h _. absurd (nothing_known (length labels) a n (subst (λ (k : List (Option ℕ)). get_or k a None ≡ some n) e h));
+  below = λ label n h. absurd (nothing_known bound label n (subst (λ (k : List (Option ℕ)). get_or k label None ≡ some n) e h));
+  one_label = λ a b n h _. absurd (nothing_known bound a n (subst (λ (k : List (Option ℕ)). get_or k a None ≡ some n) e h));
   in_order = λ i n less _. absurd (omega arith);
   all_appear = λ n less. absurd (omega arith);
 }
@@ -77,9 +77,9 @@ in_order_more numbers number done count len few before all =
     still numbers number done done n (omega arith) (omega arith) (all n (omega arith)))
 
 -- a label that has a number already
-pub AreNumbered-known : (labels : List ℕ) (done : ℕ) (known : List (Option ℕ)) (numbers : List ℕ) (count number : ℕ) → AreNumbered labels done known numbers count
-    → get_or known (get_or labels done 0) None ≡ some number → AreNumbered labels (done + 1) known (numbers ++ number ∷ []) count
-AreNumbered-known labels done known numbers count number a found =
+pub AreNumbered-known : (bound : ℕ) (labels : List ℕ) (done : ℕ) (known : List (Option ℕ)) (numbers : List ℕ) (count number : ℕ) → AreNumbered bound labels done known numbers count
+    → get_or known (get_or labels done 0) None ≡ some number → AreNumbered bound labels (done + 1) known (numbers ++ number ∷ []) count
+AreNumbered-known bound labels done known numbers count number a found =
     let less_count : number < count = a.below (get_or labels done 0) number found in
     let len : length numbers ≡ done = a.one_each in
     let last : get_or (numbers ++ number ∷ []) done 0 ≡ number = get_or_push numbers number 0 done len in
@@ -127,10 +127,10 @@ one_at known label count one below here b c n h k (inr ne) (inr nd) =
     one b c n (sym (other_label known label count b ne) ∙ h) (sym (other_label known label count c nd) ∙ k)
 
 -- a label that gets the next number
-pub AreNumbered-next : (labels : List ℕ) (done : ℕ) (known : List (Option ℕ)) (numbers : List ℕ) (count : ℕ) → AreNumbered labels done known numbers count
-    → get_or labels done 0 < length labels → get_or known (get_or labels done 0) None ≡ none
-    → AreNumbered labels (done + 1) (set known (get_or labels done 0) (some count)) (numbers ++ count ∷ []) (count + 1)
-AreNumbered-next labels done known numbers count a small unknown =
+pub AreNumbered-next : (bound : ℕ) (labels : List ℕ) (done : ℕ) (known : List (Option ℕ)) (numbers : List ℕ) (count : ℕ) → AreNumbered bound labels done known numbers count
+    → get_or labels done 0 < bound → get_or known (get_or labels done 0) None ≡ none
+    → AreNumbered bound labels (done + 1) (set known (get_or labels done 0) (some count)) (numbers ++ count ∷ []) (count + 1)
+AreNumbered-next bound labels done known numbers count a small unknown =
     let label = get_or labels done 0 in
     let len : length numbers ≡ done = a.one_each in
     let last : get_or (numbers ++ count ∷ []) done 0 ≡ count = get_or_push numbers count 0 done len in
@@ -157,20 +157,20 @@ pub record Counts (count number after : ℕ) : Type 0 where
   pub same : (number ≡ count → ⊥) → after ≡ count
 
 -- one label more
-pub AreNumbered-more : (labels : List ℕ) (done : ℕ) (known after : List (Option ℕ)) (numbers : List ℕ) (count number count' : ℕ) → AreNumbered labels done known numbers count
-    → get_or labels done 0 < length labels → NumbersNext known after (get_or labels done 0) count number → Counts count number count'
-    → AreNumbered labels (done + 1) after (numbers ++ number ∷ []) count'
-AreNumbered-more labels done known after numbers count number count' a small (inl found) counts =
+pub AreNumbered-more : (bound : ℕ) (labels : List ℕ) (done : ℕ) (known after : List (Option ℕ)) (numbers : List ℕ) (count number count' : ℕ) → AreNumbered bound labels done known numbers count
+    → get_or labels done 0 < bound → NumbersNext known after (get_or labels done 0) count number → Counts count number count'
+    → AreNumbered bound labels (done + 1) after (numbers ++ number ∷ []) count'
+AreNumbered-more bound labels done known after numbers count number count' a small (inl found) counts =
     let less : number < count = a.below (get_or labels done 0) number found.0 in
     let stays : count' ≡ count = counts.same (λ e. omega arith) in
-    rw (stays, found.1) (AreNumbered-known labels done known numbers count number a found.0)
-AreNumbered-more labels done known after numbers count number count' a small (inr fresh) counts =
+    rw (stays, found.1) (AreNumbered-known bound labels done known numbers count number a found.0)
+AreNumbered-more bound labels done known after numbers count number count' a small (inr fresh) counts =
     let goes_up : count' ≡ count + 1 = counts.up fresh.1 in
-    rw (goes_up, fresh.1, fresh.2) (AreNumbered-next labels done known numbers count a small fresh.0)
+    rw (goes_up, fresh.1, fresh.2) (AreNumbered-next bound labels done known numbers count a small fresh.0)
 
 -- the finished numbering
-pub IsNumbering-from_all : (labels numbers : List ℕ) (known : List (Option ℕ)) (count : ℕ) → AreNumbered labels (length labels) known numbers count → IsNumbering ◌≡◌ labels numbers count
-IsNumbering-from_all labels numbers known count a = record {
+pub IsNumbering-from_all : (bound : ℕ) (labels numbers : List ℕ) (known : List (Option ℕ)) (count : ℕ) → AreNumbered bound labels (length labels) known numbers count → IsNumbering ◌≡◌ labels numbers count
+IsNumbering-from_all bound labels numbers known count a = record {
   one_each = a.one_each;
   classes = λ i j x y at_i at_j.
       let i_in = slice_get_within labels i x at_i in

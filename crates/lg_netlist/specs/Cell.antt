@@ -1,5 +1,5 @@
 -- What gates answer. Source: the library reference of Logisim-evolution, Gates Library, over four-valued bits.
-use Rattle.std.specs.Prelude.{ℕ, Bool, ◌||◌, List, [], ◌∷◌, Option, Some, None, map, replicate, slice_index_or, if◌then◌else◌}
+use Rattle.std.specs.Prelude.{ℕ, Bool, ◌||◌, List, [], ◌∷◌, Option, Some, map, replicate, slice_index_or, if◌then◌else◌}
 use Rattle.std.specs.List.{list_all, list_any, filter_map, range_with_len}
 use Rattle.lg_value.specs.declared.bit.Bit.{Bit}
 use Rattle.lg_value.specs.declared.bit.Bit.TheVariants.{Zero, One, Unknown, Error}

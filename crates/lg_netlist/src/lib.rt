@@ -4,6 +4,7 @@
 mod names;
 mod netlist;
 mod numbering;
+mod one_gate;
 
 pub use names::{LONGEST_NAME, name_of_label, pin_names};
 pub use netlist::{Cell, Netlist, PartUse, PinUse};

@@ -6,13 +6,13 @@ ghost use Rattle.lg_netlist.specs.Numbering.{IsNumbering, NumbersNext};
 use std::alloc::{AllocError, Global};
 
 /// Numbers from 0 for labels, in the order in which they first appear, and how many there are. Equal labels, and no
-/// others, have one number. Labels are less than how many of them there are.
-pub fn numbered(alloc: Global, labels: &[u32]) -> Result<(Vec<u32>, u32), AllocError>
+/// others, have one number. It takes time in the labels and the bound that they are below.
+pub fn numbered(alloc: Global, labels: &[u32], bound: usize) -> Result<(Vec<u32>, u32), AllocError>
     requires few { length labels.now < 2 ^ 32 }
-    requires small { All (λ label. label < length labels.now) labels.now }
+    requires small { All (λ label. label < bound) labels.now }
     ensures { IfOk result (λ found. IsNumbering ◌≡◌ labels.now found.0.items found.1) }
 {
-    let mut known = vec![in alloc; None; labels.len()]?;
+    let mut known = vec![in alloc; None; bound]?;
     let mut numbers = Vec::with_capacity(alloc, labels.len())?;
     let mut count = 0;
     for label in labels {

@@ -1,5 +1,9 @@
+mod netlists;
+
 use super::*;
 use lg_text::Text;
+use netlists::{Gates, Pins, netlist};
+use std::alloc::{AllocError, Global};
 use std::test::Fail;
 
 #[test]
@@ -26,24 +30,113 @@ fn labels_give_names(rt: HostRuntime) -> Result<(), Fail> {
 
 #[test]
 fn taken_names_get_numbers(rt: HostRuntime) -> Result<(), Fail> {
-    let alloc = rt.alloc();
-    let mut labels = Vec::new(alloc);
-    for label in ["A", "A", "A_2", "B", "A", "a", "B "] {
-        labels.push(Text::copy_of(alloc, label)?)?;
+    let table: [(&'static [&'static str], &'static str); 4] = [
+        (
+            &["A", "A", "A_2", "B", "A", "a", "B "],
+            "A A_2 A_2_2 B A_3 a B_2 ",
+        ),
+        (&["A", "A", "A_2"], "A A_2 A_2_2 "),
+        (&["a-b", "a.b"], "a_b a_b_2 "),
+        (&["A_2", "A", "A", "A"], "A_2 A A_3 A_4 "),
+    ];
+    for (labels, expected) in table {
+        assert_eq!(rt; names_of(rt.alloc(), labels)?.as_str(), expected);
     }
-    let names = pin_names(alloc, labels.as_slice())?;
+    Ok(())
+}
+
+// The names of pins with these labels, a space after each.
+fn names_of(alloc: Global, labels: &'static [&'static str]) -> Result<String, AllocError> {
+    let mut texts = Vec::new(alloc);
+    for label in labels {
+        texts.push(Text::copy_of(alloc, label)?)?;
+    }
+    let names = pin_names(alloc, texts.as_slice())?;
     let mut all = String::new(alloc);
     for name in names.as_slice() {
         all.push_str(name.as_str())?;
         all.push_str(" ")?;
     }
-    assert_eq!(rt; all.as_str(), "A A_2 A_2_2 B A_3 a B_2 ");
+    Ok(all)
+}
+
+#[test]
+fn equal_labels_count_up(rt: HostRuntime) -> Result<(), Fail> {
+    let alloc = rt.alloc();
+    let mut labels = Vec::new(alloc);
+    for _ in 0..2000 {
+        labels.push(Text::copy_of(alloc, "A")?)?;
+    }
+    let names = pin_names(alloc, labels.as_slice())?;
+    let last = names.get(1999).map(|name| name.as_str());
+    assert_eq!(rt; last, Some("A_2000"));
+    Ok(())
+}
+
+#[test]
+fn one_gate_circuits(rt: HostRuntime) -> Result<(), Fail> {
+    let table: [(&'static str, Pins, Gates, bool); 10] = [
+        ("nothing at all", &[], &[], true),
+        (
+            "a gate between pins",
+            &[(true, 0), (false, 1)],
+            &[(Some(0), Some(1))],
+            true,
+        ),
+        (
+            "a gate that reads a gate",
+            &[(true, 0), (false, 2)],
+            &[(Some(0), Some(1)), (Some(1), Some(2))],
+            false,
+        ),
+        (
+            "two input pins on one net",
+            &[(true, 3), (true, 3)],
+            &[],
+            false,
+        ),
+        (
+            "a gate's output on an input pin's net",
+            &[(true, 0), (true, 1)],
+            &[(Some(0), Some(1))],
+            false,
+        ),
+        (
+            "two gates' outputs on one net",
+            &[(true, 0)],
+            &[(Some(0), Some(7)), (Some(0), Some(7))],
+            false,
+        ),
+        ("an unread output", &[(true, 0)], &[(Some(0), None)], true),
+        (
+            "an unattached input",
+            &[(true, 0), (false, 1)],
+            &[(None, Some(1))],
+            false,
+        ),
+        (
+            "an output pin on an input pin's net",
+            &[(false, 4), (true, 4)],
+            &[],
+            true,
+        ),
+        (
+            "an output pin on a net of its own",
+            &[(false, 4)],
+            &[],
+            false,
+        ),
+    ];
+    for (case, pins, gates, expected) in table {
+        let netlist = netlist(&rt, rt.alloc(), pins, gates)?;
+        assert_eq!(rt; netlist.is_one_gate(rt.alloc())?, expected, "{case}");
+    }
     Ok(())
 }
 
 #[test]
 fn classes_are_numbered_by_first_appearance(rt: HostRuntime) -> Result<(), Fail> {
-    let (numbers, count) = numbered(rt.alloc(), &[3, 3, 0, 3, 5, 0])?;
+    let (numbers, count) = numbered(rt.alloc(), &[3, 3, 0, 3, 9, 0], 10)?;
     assert_eq!(rt; numbers.as_slice(), [0, 0, 1, 0, 2, 1].as_slice());
     assert_eq!(rt; count, 3);
     Ok(())

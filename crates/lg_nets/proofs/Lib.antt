@@ -1,1 +1,11 @@
 pub mod LabelLemmas
+pub mod ForestLemmas
+pub mod OrderLemmas
+pub mod ChainLemmas
+pub mod RowLemmas
+pub mod NodeLemmas
+pub mod ClassLemmas
+pub mod ShareLemmas
+pub mod RayLemmas
+pub mod MeetLemmas
+pub mod NetLemmas

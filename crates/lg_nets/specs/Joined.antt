@@ -1,6 +1,6 @@
 -- Joined places: what the wires of a sheet connect.
 -- Source: the Logisim-evolution user guide, Wires: an end joins, and wires that only cross do not.
-use Rattle.std.specs.Prelude.{◌≡◌, ℕ, List, [], ◌∷◌, Contains, length, slice_get, slice_index, Some, ◌↔◌, ◌<◌, ◌⊎◌, ℤ, ◌≤ℤ◌}
+use Rattle.std.specs.Prelude.{◌≡◌, ℕ, List, [], ◌∷◌, Contains, length, slice_get, slice_index, Some, ◌↔◌, ◌<◌, ◌⊎◌, ◌≢◌, ℤ, ◌≤ℤ◌, Bool, false, IsTrue, slice_index_or}
 use Rattle.std.specs.List.{flat_map}
 use Rattle.lg_circ.specs.declared.project.Point.{Point}
 use Rattle.lg_circ.specs.declared.project.Wire.{Wire}
@@ -60,7 +60,13 @@ pub record AreLabels (wires : List Wire) (ports : List Point) (labels : List ℕ
       → (slice_index labels i ≡ slice_index labels j) ↔ Joined wires ports (place_at a) (place_at b)
   pub small : (i : ℕ) → i < length labels → slice_index labels i < length labels
 
--- the place of the first of equal ports
-pub record IsFirstAt (ports : List Point) (port : Point) (place : ℕ) : Type 0 where
-  pub here : slice_get ports place ≡ Some port
-  pub none_before : (i : ℕ) → i < place → slice_get ports i ≡ Some port → ⊥
+-- a wire lies along the port's point, or another port lies at it
+abbrev pub IsAttached : List Wire → List Point → ℕ → Point → Type 0
+IsAttached wires ports i point =
+    ((wire : Wire) × Contains wires wire × LiesOn wire point) ⊎ ((j : ℕ) × (j ≢ i) × (slice_get ports j ≡ Some point))
+
+-- one flag for each port: whether something is attached to it
+pub record AreAttached (wires : List Wire) (ports : List Point) (flags : List Bool) : Type 0 where
+  pub one_each : length flags ≡ length ports
+  pub attached : (i : ℕ) (point : Point) → slice_get ports i ≡ Some point
+      → IsTrue (slice_index_or flags i false) ↔ IsAttached wires ports i point

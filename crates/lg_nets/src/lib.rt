@@ -1,9 +1,12 @@
 //! The nets of a sheet: which ports its wires join.
 #![tactic(auto)]
 
-mod labels;
+mod components;
+mod nets;
+mod rays;
+mod rows;
 
-pub use labels::sheet_labels;
+pub use nets::{SheetNets, sheet_nets};
 
 #[cfg(test)]
 mod tests;

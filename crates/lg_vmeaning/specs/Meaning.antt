@@ -1,6 +1,6 @@
 -- What a module means: equations over numbers, and the valuations that solve them.
 -- Source: IEEE 1364-2005, 6.1 (continuous assignments), 5.1 and 5.4 (operators and the widths of expressions).
-use Rattle.std.specs.Prelude.{◌≡◌, ℕ, ◌-◌, ◌^◌, ◌<◌, Bool, true, false, not, List, [], ◌∷◌, ◌++◌, map, filter, find, option_map, unwrap_or, bit_and, bit_or}
+use Rattle.std.specs.Prelude.{◌≡◌, ℕ, ◌-◌, ◌^◌, ◌<◌, Bool, true, false, not, List, ◌++◌, map, filter, find, option_map, unwrap_or, bit_and, bit_or}
 use Rattle.std.specs.List.{AllByRecursion}
 use Rattle.std.specs.Str.{bytes_eq}
 use Rattle.lg_verilog.specs.declared.module.Direction.{Direction}

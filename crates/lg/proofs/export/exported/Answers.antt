@@ -1,8 +1,5 @@
 -- What the bytes of the file make is what is due for it.
-use Rattle.std.proofs.Common.{◌≡◌, ℕ, ◌≤◌, List, length, Option, Some, Result, Vec, Global, subst, sym}
-use Rattle.std.specs.Prelude.{IfSome}
-use Rattle.lg.specs.declared.stop.Stop.{Stop}
-use Rattle.lg.specs.Due.{Held, longest_project}
+use Rattle.std.proofs.Common.{ℕ, List, subst}
 use Rattle.lg.specs.Exported.{Makes}
 use Rattle.lg.proofs.Dues.{Exports-from_makes}
 use Rattle.lg.proofs.export.exported.Goals as goal

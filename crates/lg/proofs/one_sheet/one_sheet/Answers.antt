@@ -1,33 +1,19 @@
--- There are as many roles as components, and three of them.
-use Rattle.std.proofs.Common.{◌≡◌, List, length, map, refl, sym, ap, ◌∙◌, arith}
-use Rattle.std.specs.List.{zip}
-use Rattle.lg.specs.OneSheet.{stood, are_not_between_pins}
-use Rattle.lg.proofs.OneNot.{exportable}
-use Rattle.lg_circ.specs.declared.project.Comp.{Comp}
+-- The sheet's one netlist is no one-gate circuit.
+use Rattle.std.proofs.Common.{◌≡◌, ℕ, Vec, Global, List, sym, ap, ◌∙◌, arith}
+use Rattle.std.specs.Prelude.{option_map, Some}
 use Rattle.lg_flatten.specs.declared.role.Role.{Role}
-use Rattle.lg_flatten.specs.Uses.{AreRoles, role_of}
-use Rattle.lg.proofs.OneSheetLemmas.{are_three, length-each}
+use Rattle.lg_flatten.specs.Uses.{roles_of}
+use Rattle.lg.proofs.OneSheetLemmas.{one_item, not_one_gate}
 use Rattle.lg.proofs.one_sheet.one_sheet.Goals as goal
 
-as_many : (comps : List Comp) (roles : List Role) → AreRoles comps roles → length comps ≡ length roles
-as_many comps roles known = length-each (role_of known.0) comps roles known.1
-
-pub is_not_between_pins-requires : goal.is_not_between_pins-requires
-is_not_between_pins-requires c =
-    let known = rw c.in-Some.is at c.in_ok-roles.ensures.known in
-    as_many c.as_slice-comps.result.now c.in-Some.roles.items known ∙ ap length (sym c.as_slice-else-not-is_empty.ensures.value)
-
-pub netlist-requires-clause-few : goal.netlist-requires-clause-few
-netlist-requires-clause-few c =
-    let known = rw c.in-Some.is at c.in_ok-roles.ensures.known in
-    let lengths = as_many c.as_slice-comps.result.now c.in-Some.roles.items known ∙ ap length (sym c.as_slice-else-not-is_empty.ensures.value) in
-    let three : length c.as_slice-comps.result.now ≡ 3 =
-    are_three c.as_slice-comps.result.now c.as_slice-else-not-is_empty.result.now lengths (sym c.is_not_between_pins.ensures ∙ c.if-not-is_not_between_pins.false) in
-    omega (arith, ap length (sym c.as_slice-comps.ensures))
-
-pub returns-clause-exportable : goal.returns-clause-exportable
-returns-clause-exportable c =
-    let roles = c.as_slice-else-not-is_empty.ensures.value ∙ sym c.as_slice-3.ensures.value in
-    let over_comps = ap (λ (comps : List Comp). are_not_between_pins (map stood (zip comps c.as_slice-else-not-is_empty.result.now))) c.as_slice-comps.ensures in
-    let over_roles = ap (λ (roles : List Role). are_not_between_pins (map stood (zip c.sheet-item.result.comps roles))) roles in
-    exportable c.sheet-item.result c.as_slice-3.result.now c.in_ok-netlist.field-0 (c.if-not-is_empty.ensures.0 refl) (sym (c.if-not-is_not_between_pins.ensures ∙ (over_comps ∙ over_roles))) c.in_ok-netlist.ensures
+pub returns-then-not-branch-clause-not_built : goal.returns-then-not-branch-clause-not_built
+returns-then-not-branch-clause-not_built c h =
+    let sheet = c.sheet-item.result in
+    let sheets = one_item c.as_slice.result.now sheet (omega (arith, c.in-len1.len_at_least, c.in-len1.len_below)) c.sheet-item.is in
+    let libs : c.as_slice-3.result.now ≡ c.args.project.now.libs = c.as_slice-3.ensures in
+    let comps : c.as_slice-comps.result.now ≡ sheet.comps = c.as_slice-comps.ensures in
+    let found : roles_of c.as_slice-3.result.now c.as_slice-comps.result.now ≡ Some c.in-Some.roles.items =
+    sym c.in_ok-roles.ensures.value ∙ ap (option_map (λ (roles : Vec Role Global). roles.items)) c.in-Some.is in
+    let known : roles_of c.args.project.now.libs sheet.comps ≡ Some c.as_slice-4.result.now =
+    sym (ap (λ (ls : List (List ℕ × List ℕ)). roles_of ls sheet.comps) libs) ∙ (sym (ap (roles_of c.as_slice-3.result.now) comps) ∙ (found ∙ ap (λ (rs : List Role). Some rs) (sym c.as_slice-4.ensures.value))) in
+    not_one_gate c.args.project.now sheet c.as_slice-4.result.now c.in_ok-netlist.netlist (sym c.as_slice.ensures ∙ sheets) known c.in_ok-netlist.ensures.only (sym c.in_ok-is_one_gate.ensures ∙ c.if-not-branch.true)

@@ -1,7 +1,5 @@
 -- Three writes, each after what the ones before it took.
 use Rattle.std.proofs.Common.{◌++◌, arith}
-use Rattle.std.specs.Prelude.{IsErr}
-use Rattle.std.proofs.lemmas.Result.{err_from_is_err_and}
 use Rattle.lg.proofs.Written.{Took-then, TookPrefix-more, TookPrefix-after, Wrote-err, Wrote-after}
 use Rattle.lg.proofs.stop.put_about.Goals as goal
 

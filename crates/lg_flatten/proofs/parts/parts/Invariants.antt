@@ -6,11 +6,11 @@ use Rattle.lg_flatten.specs.Uses.{port_points}
 use Rattle.lg_flatten.specs.Flat.{parts_of}
 use Rattle.lg_flatten.proofs.parts.parts.Given as goal
 
--- the parts so far and those that are left are all, and each port that is left has a net
+-- the parts so far and those that are left are all, and each port that is left has its net bits
 abbrev pub invariant-loop-comp : goal.invariant-loop-comp
 invariant-loop-comp l =
     let uses = zip (iter_rest (zip_first l.comp-iterator)) (iter_rest (zip_second l.comp-iterator)) in
     record {
-      value : l.parts ++ parts_of l.circuit uses l.rest ≡ parts_of l.circuit (zip l.comps l.roles) l.nets;
+      value : l.parts ++ parts_of l.circuit uses l.rest ≡ parts_of l.circuit (zip l.comps l.roles) l.ports;
       one_each : length l.rest ≡ length (flat_map port_points uses);
     }

@@ -2,7 +2,7 @@
 use Rattle.std.proofs.Common.{◌≡◌, ℕ, List, ◌++◌, sym, ap, subst, ◌∙◌, append_assoc}
 use Rattle.std.specs.Prelude.{codes}
 use Rattle.lg.specs.Outcome.{Wrote}
-use Rattle.lg.specs.Lines.{refusal_text, refusal_ending}
+use Rattle.lg.specs.Lines.{refusal_text}
 use Rattle.lg.specs.Due.{input_line}
 use Rattle.lg.proofs.stop.Stop.write_line.Goals as goal
 

@@ -1,0 +1,47 @@
+#!/usr/bin/env bash
+# Times `lg export` of one-gate circuits of 100, 1,000 and 10,000 gates: the best of three runs each, as ratios to the first.
+# All gates read the pins A and B from two upright wires, which the branches cross; each has an output pin of its own.
+set -u
+cd "$(dirname "$0")/.." || exit 1
+program=$PWD/crates/lg/out/lg
+[ -x "$program" ] || { echo "bench/export.sh: no program at crates/lg/out/lg; 'rt ci' builds it"; exit 1; }
+folder=$(mktemp -d) || exit 1
+trap 'rm -rf "$folder"' EXIT
+
+circuit() {
+  awk -v gates="$1" 'BEGIN {
+    print "<project><lib desc=\"#Wiring\" name=\"0\"/><lib desc=\"#Gates\" name=\"1\"/><circuit name=\"main\">"
+    print "<comp lib=\"0\" loc=\"(10,0)\" name=\"Pin\"><a name=\"label\" val=\"A\"/></comp>"
+    print "<comp lib=\"0\" loc=\"(20,0)\" name=\"Pin\"><a name=\"label\" val=\"B\"/></comp>"
+    printf "<wire from=\"(10,0)\" to=\"(10,%d)\"/><wire from=\"(20,0)\" to=\"(20,%d)\"/>\n", 60 * gates, 60 * gates
+    for (k = 0; k < gates; k++) {
+      y = 60 * k + 30
+      printf "<comp lib=\"1\" loc=\"(100,%d)\" name=\"%s Gate\"/>", y, k % 2 ? "OR" : "AND"
+      printf "<comp lib=\"0\" loc=\"(100,%d)\" name=\"Pin\"><a name=\"output\" val=\"true\"/><a name=\"label\" val=\"Y\"/></comp>", y
+      printf "<wire from=\"(10,%d)\" to=\"(50,%d)\"/><wire from=\"(20,%d)\" to=\"(50,%d)\"/>\n", y - 20, y - 20, y + 20, y + 20
+    }
+    print "</circuit></project>"
+  }'
+}
+
+# Microseconds of the best of three runs.
+best() {
+  local least=
+  for _ in 1 2 3; do
+    local from to
+    from=$(date +%s%N)
+    "$program" export "$1" >"$folder/out.v" || exit 1
+    to=$(date +%s%N)
+    local took=$(((to - from) / 1000))
+    [ -z "$least" ] || [ "$took" -lt "$least" ] && least=$took
+  done
+  echo "$least"
+}
+
+first=
+for gates in 100 1000 10000; do
+  circuit "$gates" >"$folder/$gates.circ"
+  took=$(best "$folder/$gates.circ")
+  first=${first:-$took}
+  awk -v gates="$gates" -v took="$took" -v first="$first" 'BEGIN { printf "%6d gates  %8.1f ms  ratio %.1f\n", gates, took / 1000, took / first }'
+done

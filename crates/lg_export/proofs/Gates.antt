@@ -1,0 +1,150 @@
+-- What a gate's equation says of numbers is what the gate answers to bits.
+use Rattle.std.proofs.Common.{◌≡◌, ℕ, zero, suc, ◌-◌, ◌<◌, List, [], ◌∷◌, map, Option, refl, sym, ap, subst, ◌∙◌, arith, inl, inr, ◌⊎◌}
+use Rattle.std.specs.List.{AllByRecursion, filter_map}
+use Rattle.lg_value.specs.declared.bit.Bit.{Bit}
+use Rattle.lg_value.specs.declared.bit.Bit.TheVariants.{Zero, One, Error}
+use Rattle.lg_value.specs.Bit.{digit_of}
+use Rattle.lg_value.specs.Word.{number_of}
+use Rattle.lg_value.proofs.WordLemmas.{number_of_one}
+use Rattle.lg_netlist.specs.declared.netlist.Cell.{Cell}
+use Rattle.lg_netlist.specs.declared.netlist.Cell.TheVariants as cell
+use Rattle.lg_netlist.specs.Cell.{not_of, and_of, or_of, bits_at, bitwise, gate_word}
+use Rattle.lg_netlist.specs.Static.{word_at}
+use Rattle.lg_verilog.specs.declared.module.Operator.{Operator}
+use Rattle.lg_verilog.specs.declared.module.Operator.TheVariants as operator
+use Rattle.lg_vmeaning.specs.Meaning.{Valuation, operator_value}
+use Rattle.lg_export.proofs.Forms.{folded, gate_number, IsBit-cases, operator_small}
+use Rattle.lg_export.proofs.Simple.{single}
+
+-- the bit that a number of one bit stands for
+abbrev pub bit_of_digit : ℕ → Bit
+bit_of_digit zero = Zero
+bit_of_digit (suc k) = One
+
+abbrev pub IsDefinedBit : Bit → Type 0
+IsDefinedBit b = (b ≡ Zero) ⊎ (b ≡ One)
+
+pub bit_is_defined : (k : ℕ) → IsDefinedBit (bit_of_digit k)
+bit_is_defined zero = inl refl
+bit_is_defined (suc k) = inr refl
+
+pub number_of-bit : (k : ℕ) → k < 2 → number_of (bit_of_digit k ∷ []) ≡ k
+number_of-bit k low = number_of_one (bit_of_digit k) ∙ by (IsBit-cases k low)
+  where
+    by : (k ≡ 0) ⊎ (k ≡ 1) → digit_of (bit_of_digit k) ≡ k
+    by (inl e) = rw e refl
+    by (inr e) = rw e refl
+
+pub bit-number_of : (b : Bit) → IsDefinedBit b → bit_of_digit (number_of (b ∷ [])) ≡ b
+bit-number_of b h = ap bit_of_digit (number_of_one b) ∙ by h
+  where
+    by : (b ≡ Zero) ⊎ (b ≡ One) → bit_of_digit (digit_of b) ≡ b
+    by (inl e) = rw e refl
+    by (inr e) = rw e refl
+
+pub number_of-small : (b : Bit) → IsDefinedBit b → number_of (b ∷ []) < 2
+number_of-small b h = subst (λ (k : ℕ). k < 2) (sym (number_of_one b)) (by h)
+  where
+    by : (b ≡ Zero) ⊎ (b ≡ One) → digit_of b < 2
+    by (inl e) = rw e (omega arith)
+    by (inr e) = rw e (omega arith)
+
+and_step : (k j : ℕ) (rest : List Bit) → (k ≡ 0) ⊎ (k ≡ 1) → (j ≡ 0) ⊎ (j ≡ 1)
+    → and_of (bit_of_digit k ∷ bit_of_digit j ∷ rest) ≡ and_of (bit_of_digit (operator_value operator.And k j) ∷ rest)
+and_step k j rest (inl e) (inl f) = ap (λ (a : ℕ). and_of (bit_of_digit a ∷ bit_of_digit j ∷ rest)) e ∙ sym (ap (λ (a : ℕ). and_of (bit_of_digit (operator_value operator.And a j) ∷ rest)) e)
+and_step k j rest (inl e) (inr f) = ap (λ (a : ℕ). and_of (bit_of_digit a ∷ bit_of_digit j ∷ rest)) e ∙ sym (ap (λ (a : ℕ). and_of (bit_of_digit (operator_value operator.And a j) ∷ rest)) e)
+and_step k j rest (inr e) (inl f) =
+    (ap (λ (a : ℕ). and_of (bit_of_digit a ∷ bit_of_digit j ∷ rest)) e ∙ ap (λ (b : ℕ). and_of (bit_of_digit 1 ∷ bit_of_digit b ∷ rest)) f)
+    ∙ sym (ap (λ (a : ℕ). and_of (bit_of_digit (operator_value operator.And a j) ∷ rest)) e ∙ ap (λ (b : ℕ). and_of (bit_of_digit (operator_value operator.And 1 b) ∷ rest)) f)
+and_step k j rest (inr e) (inr f) =
+    (ap (λ (a : ℕ). and_of (bit_of_digit a ∷ bit_of_digit j ∷ rest)) e ∙ ap (λ (b : ℕ). and_of (bit_of_digit 1 ∷ bit_of_digit b ∷ rest)) f)
+    ∙ sym (ap (λ (a : ℕ). and_of (bit_of_digit (operator_value operator.And a j) ∷ rest)) e ∙ ap (λ (b : ℕ). and_of (bit_of_digit (operator_value operator.And 1 b) ∷ rest)) f)
+
+or_step : (k j : ℕ) (rest : List Bit) → (k ≡ 0) ⊎ (k ≡ 1) → (j ≡ 0) ⊎ (j ≡ 1)
+    → or_of (bit_of_digit k ∷ bit_of_digit j ∷ rest) ≡ or_of (bit_of_digit (operator_value operator.Or k j) ∷ rest)
+or_step k j rest (inl e) (inl f) =
+    (ap (λ (a : ℕ). or_of (bit_of_digit a ∷ bit_of_digit j ∷ rest)) e ∙ ap (λ (b : ℕ). or_of (bit_of_digit 0 ∷ bit_of_digit b ∷ rest)) f)
+    ∙ sym (ap (λ (a : ℕ). or_of (bit_of_digit (operator_value operator.Or a j) ∷ rest)) e ∙ ap (λ (b : ℕ). or_of (bit_of_digit (operator_value operator.Or 0 b) ∷ rest)) f)
+or_step k j rest (inl e) (inr f) =
+    (ap (λ (a : ℕ). or_of (bit_of_digit a ∷ bit_of_digit j ∷ rest)) e ∙ ap (λ (b : ℕ). or_of (bit_of_digit 0 ∷ bit_of_digit b ∷ rest)) f)
+    ∙ sym (ap (λ (a : ℕ). or_of (bit_of_digit (operator_value operator.Or a j) ∷ rest)) e ∙ ap (λ (b : ℕ). or_of (bit_of_digit (operator_value operator.Or 0 b) ∷ rest)) f)
+or_step k j rest (inr e) (inl f) =
+    (ap (λ (a : ℕ). or_of (bit_of_digit a ∷ bit_of_digit j ∷ rest)) e ∙ ap (λ (b : ℕ). or_of (bit_of_digit 1 ∷ bit_of_digit b ∷ rest)) f)
+    ∙ sym (ap (λ (a : ℕ). or_of (bit_of_digit (operator_value operator.Or a j) ∷ rest)) e ∙ ap (λ (b : ℕ). or_of (bit_of_digit (operator_value operator.Or 1 b) ∷ rest)) f)
+or_step k j rest (inr e) (inr f) =
+    (ap (λ (a : ℕ). or_of (bit_of_digit a ∷ bit_of_digit j ∷ rest)) e ∙ ap (λ (b : ℕ). or_of (bit_of_digit 1 ∷ bit_of_digit b ∷ rest)) f)
+    ∙ sym (ap (λ (a : ℕ). or_of (bit_of_digit (operator_value operator.Or a j) ∷ rest)) e ∙ ap (λ (b : ℕ). or_of (bit_of_digit (operator_value operator.Or 1 b) ∷ rest)) f)
+
+step_small : (op : Operator) (k j : ℕ) → (k ≡ 0) ⊎ (k ≡ 1) → (j ≡ 0) ⊎ (j ≡ 1) → operator_value op k j < 2
+step_small op k j hk hj = operator_small op k j (low k hk) (low j hj)
+  where
+    low : (a : ℕ) → (a ≡ 0) ⊎ (a ≡ 1) → a < 2
+    low a (inl e) = omega (arith, e)
+    low a (inr e) = omega (arith, e)
+
+-- the bits of some names
+abbrev pub bits_of : Valuation → List (List ℕ) → List Bit
+bits_of v names = map (λ name. bit_of_digit (v name)) names
+
+abbrev pub AreSmall : Valuation → List (List ℕ) → Type 0
+AreSmall v names = AllByRecursion (λ name. v name < 2) names
+
+and_bits : (v : Valuation) (k : ℕ) (names : List (List ℕ)) → k < 2 → AreSmall v names → and_of (bit_of_digit k ∷ bits_of v names) ≡ bit_of_digit (folded operator.And v k names)
+and_bits v k [] low small = by (IsBit-cases k low)
+  where
+    by : (k ≡ 0) ⊎ (k ≡ 1) → and_of (bit_of_digit k ∷ []) ≡ bit_of_digit k
+    by (inl e) = rw e refl
+    by (inr e) = rw e refl
+and_bits v k (name ∷ names) low small =
+    let hk = IsBit-cases k low in
+    let hj = IsBit-cases (v name) small.0 in
+    and_step k (v name) (bits_of v names) hk hj ∙ and_bits v (operator_value operator.And k (v name)) names (step_small operator.And k (v name) hk hj) small.1
+
+or_bits : (v : Valuation) (k : ℕ) (names : List (List ℕ)) → k < 2 → AreSmall v names → or_of (bit_of_digit k ∷ bits_of v names) ≡ bit_of_digit (folded operator.Or v k names)
+or_bits v k [] low small = by (IsBit-cases k low)
+  where
+    by : (k ≡ 0) ⊎ (k ≡ 1) → or_of (bit_of_digit k ∷ []) ≡ bit_of_digit k
+    by (inl e) = rw e refl
+    by (inr e) = rw e refl
+or_bits v k (name ∷ names) low small =
+    let hk = IsBit-cases k low in
+    let hj = IsBit-cases (v name) small.0 in
+    or_step k (v name) (bits_of v names) hk hj ∙ or_bits v (operator_value operator.Or k (v name)) names (step_small operator.Or k (v name) hk hj) small.1
+
+not_bit : (k : ℕ) → k < 2 → not_of (bit_of_digit k) ≡ bit_of_digit (1 - k)
+not_bit k low = by (IsBit-cases k low)
+  where
+    by : (k ≡ 0) ⊎ (k ≡ 1) → not_of (bit_of_digit k) ≡ bit_of_digit (1 - k)
+    by (inl e) = rw e refl
+    by (inr e) = rw e refl
+
+-- the bit that a gate answers to the bits of its inputs
+abbrev pub gate_bit : Cell → List Bit → Bit
+gate_bit cell.Not [] = Error
+gate_bit cell.Not (b ∷ bits) = not_of b
+gate_bit cell.And bits = and_of bits
+gate_bit cell.Or bits = or_of bits
+
+pub gate_bit-number : (c : Cell) (v : Valuation) (name : List ℕ) (names : List (List ℕ)) → AreSmall v (name ∷ names) → gate_bit c (bits_of v (name ∷ names)) ≡ bit_of_digit (gate_number c v name names)
+gate_bit-number cell.Not v name names small = not_bit (v name) small.0
+gate_bit-number cell.And v name names small = and_bits v (v name) names small.0 small.1
+gate_bit-number cell.Or v name names small = or_bits v (v name) names small.0 small.1
+
+-- words of one bit each
+words_of : (value : ℕ → Bit) (nets : List ℕ) → filter_map (λ (w : Option (List Bit)). w) (map (word_at value) (map single nets)) ≡ map (λ (net : ℕ). value net ∷ []) nets
+words_of value [] = refl
+words_of value (net ∷ nets) = ap (λ (ws : List (List Bit)). (value net ∷ []) ∷ ws) (words_of value nets)
+
+firsts_of : (value : ℕ → Bit) (nets : List ℕ) → bits_at 0 (map (λ (net : ℕ). value net ∷ []) nets) ≡ map value nets
+firsts_of value [] = refl
+firsts_of value (net ∷ nets) = ap (λ (bs : List Bit). value net ∷ bs) (firsts_of value nets)
+
+wide : (gate : List Bit → Bit) (value : ℕ → Bit) (first : ℕ) (more : List ℕ)
+    → bitwise gate 1 (filter_map (λ (w : Option (List Bit)). w) (map (word_at value) (map single (first ∷ more)))) ≡ gate (map value (first ∷ more)) ∷ []
+wide gate value first more = ap (bitwise gate 1) (words_of value (first ∷ more)) ∙ ap (λ (bs : List Bit). gate bs ∷ []) (firsts_of value (first ∷ more))
+
+-- the word that a gate answers to inputs on these nets
+pub gate_word-bit : (c : Cell) (value : ℕ → Bit) (first : ℕ) (more : List ℕ) → (c ≡ cell.Not → more ≡ []) → gate_word c 1 (map (word_at value) (map single (first ∷ more))) ≡ gate_bit c (map value (first ∷ more)) ∷ []
+gate_word-bit cell.Not value first more alone = rw (alone refl) refl
+gate_word-bit cell.And value first more alone = wide and_of value first more
+gate_word-bit cell.Or value first more alone = wide or_of value first more
