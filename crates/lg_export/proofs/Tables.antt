@@ -6,7 +6,9 @@ use Rattle.lg_value.specs.Word.{IsDefined, number_of}
 use Rattle.lg_timing.specs.Circuit.{Word, Stimulus}
 use Rattle.lg_timing.specs.Instant.{value_at}
 use Rattle.lg_timing.specs.Settling.{SettlesAt}
-use Rattle.lg_timing.specs.Session.{Phase, Settle, Rise, Fall, Line, Stop, Table, read_at, set_at, Ticks, HasClock, RowStops, GoesOn}
+use Rattle.lg_timing.specs.declared.phase.Phase.{Phase}
+use Rattle.lg_timing.specs.declared.phase.Phase.TheVariants.{Settle, Rise, Fall}
+use Rattle.lg_timing.specs.Session.{Line, Stop, Table, read_at, set_at, Ticks, HasClock, RowStops, GoesOn}
 use Rattle.lg_netlist.specs.declared.netlist.PinUse.{PinUse}
 use Rattle.lg_netlist.specs.declared.netlist.Netlist.{Netlist}
 use Rattle.lg_netlist.specs.Valid.{IsValid}
