@@ -1,10 +1,17 @@
--- What becomes of a row of a session.
+-- What becomes of a row of a session, and what it leaves to the next.
 use Rattle.std.specs.Prelude.{ℕ, ◌+◌, ◌^◌, ◌<◌, List}
+use Rattle.lg_timing.specs.declared.settling.Ending.{Ending}
+use Rattle.lg_timing.specs.declared.settling.Ending.TheVariants.{Settled, Oscillates}
 use Rattle.lg_timing.specs.declared.table.Row.{Row}
 use Rattle.lg_timing.specs.declared.table.Row.TheVariants.{Done, Stops}
 use Rattle.lg_timing.specs.Circuit.{Word, Circuit, Stimulus}
 use Rattle.lg_timing.specs.Settling.{StayFrom}
 use Rattle.lg_timing.specs.Session.{RowDone, RowStops}
+
+-- the next stimulus may stand at the instant after the one where these have settled
+abbrev pub EndingLeaves : List Stimulus → Ending → Type 0
+EndingLeaves after (Settled at) = StayFrom after (at + 1) × (at + 1 < 2 ^ 63)
+EndingLeaves after Oscillates = Unit {0}
 
 -- it gives its line, and these are the stimuli then; or it stops
 abbrev pub RowEnds : Circuit → ℕ → List Stimulus → ℕ → List Word → List Stimulus → Row → Type 0

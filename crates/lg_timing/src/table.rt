@@ -3,8 +3,8 @@
 ghost use Rattle.std.specs.Prelude.{◌≡◌, ◌^◌, ◌<◌, ◌++◌, ◌∷◌, [], ℕ, IfOk, OnOk, map, All};
 ghost use Rattle.lg_timing.specs.Settling.{IsSteady, StayFrom};
 ghost use Rattle.lg_timing.specs.Session.{stimulus, IsTable};
-ghost use Rattle.lg_timing.specs.Plain.{IsWellFormed, circuit_of, IsEnding, IsEarly};
-ghost use Rattle.lg_timing.specs.Rows.{RowEnds, RowLeaves};
+ghost use Rattle.lg_timing.specs.Plain.{IsWellFormed, circuit_of, IsEnding};
+ghost use Rattle.lg_timing.specs.Rows.{EndingLeaves, RowEnds, RowLeaves};
 
 use crate::settling::{Ending, ending_of};
 use crate::value::read_at;
@@ -31,6 +31,18 @@ impl Model for Line {
     ghost Value = { Line };
 
     ghost view = { λ l. record { outputs = l.outputs; settle = l.settle; tick = l.tick } };
+}
+
+impl Line {
+    fn new(outputs: Words, settle: u64, tick: Option<(u64, u64)>) -> Line
+        ensures { result ≡ record { outputs = outputs; settle = settle; tick = tick } }
+    {
+        Line {
+            outputs,
+            settle,
+            tick,
+        }
+    }
 }
 
 /// Where the table ends early.
@@ -91,7 +103,7 @@ fn put<P: Behaviour>(
         (stimuli.new.items ≡ stimuli.old.items ++ stimulus from words.now clock ∷ []) }
     ensures is { IfOk result (λ ending. IsEnding (circuit_of P.meaning circuit.now)
         (stimuli.old.items ++ stimulus from words.now clock ∷ []) from limit ending) }
-    ensures early { IfOk result IsEarly }
+    ensures leaves { IfOk result (λ ending. EndingLeaves stimuli.new.items ending) }
 {
     let copy = Words::copy_of(alloc, words.words())?;
     stimuli.push(Stimulus::new(from, copy, clock))?;
@@ -121,15 +133,7 @@ fn row_of<P: Behaviour>(
     let outputs = Words::new(read_at(alloc, circuit, stimuli.as_slice(), settled)?);
     let settle = settled - from;
     if circuit.clocks.nets().is_empty() {
-        let tick = None;
-        return Ok(Row::Done(
-            Line {
-                outputs,
-                settle,
-                tick,
-            },
-            settled,
-        ));
+        return Ok(Row::Done(Line::new(outputs, settle, None), settled));
     }
     let risen = match put(alloc, circuit, stimuli, settled + 1, words, Bit::One, limit)? {
         Ending::Oscillates => return Ok(Row::Stops(Phase::Rise)),
@@ -140,14 +144,7 @@ fn row_of<P: Behaviour>(
         Ending::Settled(at) => at,
     };
     let tick = Some((risen - (settled + 1), fallen - (risen + 1)));
-    Ok(Row::Done(
-        Line {
-            outputs,
-            settle,
-            tick,
-        },
-        fallen,
-    ))
+    Ok(Row::Done(Line::new(outputs, settle, tick), fallen))
 }
 
 /// The session table of some rows.

@@ -104,6 +104,18 @@ fn expect_net(
     Ok(())
 }
 
+// The table of a circuit that is well formed.
+fn table_of(
+    rt: &impl Abort,
+    alloc: Global,
+    circuit: &Circuit<Sample>,
+    rows: &[Words],
+    limit: u32,
+) -> Result<Table, AllocError> {
+    assert!(rt; is_well_formed(circuit));
+    session(alloc, circuit, rows, limit)
+}
+
 type Ticks = Option<(u64, u64)>;
 
 // The lines of a table, each with the first output, and where it stops.
@@ -116,8 +128,7 @@ fn expect_table(
     want: &[(Bit, u64, Ticks)],
     stop: Option<(u64, Phase)>,
 ) -> Result<(), Fail> {
-    assert!(rt; is_well_formed(circuit));
-    let table = session(alloc, circuit, rows, limit)?;
+    let table = table_of(rt, alloc, circuit, rows, limit)?;
     assert_eq!(rt; table.lines.len(), want.len());
     for (line, (output, settle, tick)) in table.lines.iter().zip(want) {
         assert_eq!(rt; line.outputs.words(), [Word::fill(1, *output)].as_slice());
@@ -305,4 +316,61 @@ fn flip_flop_toggles_at_each_rise(rt: HostRuntime) -> Result<(), Fail> {
         (ONE, 0, Some((5, 0))),
     ];
     expect_table(&rt, alloc, &toggle, rows.as_slice(), 1, &lines, None)
+}
+
+#[test]
+fn clock_that_enables_a_loop_stops_at_the_rise(rt: HostRuntime) -> Result<(), Fail> {
+    let alloc = rt.alloc();
+    let parts: [(Kind, &[u32], &[u32]); 2] = [(Kind::And, &[0, 2], &[1]), (Kind::Not, &[1], &[2])];
+    let ring = circuit(alloc, &parts, &[], &[1], &[0])?;
+    let mut rows = Vec::new(alloc);
+    rows.push(words(alloc, &[])?)?;
+    let stop = Some((1, Phase::Rise));
+    expect_table(&rt, alloc, &ring, rows.as_slice(), 9, &[], stop)
+}
+
+#[test]
+fn pins_of_two_bits_pass_a_word(rt: HostRuntime) -> Result<(), Fail> {
+    let alloc = rt.alloc();
+    let mut crossed = circuit(alloc, &[], &[], &[], &[])?;
+    crossed
+        .pins
+        .push(Nets::new(Vec::from_slice(alloc, &[0, 1])?))?;
+    crossed
+        .outputs
+        .push(Nets::new(Vec::from_slice(alloc, &[1, 0])?))?;
+    let row = Words::copy_of(alloc, &[Word::from_number(2, 1)])?;
+    let table = table_of(&rt, alloc, &crossed, &[row], 0)?;
+    assert_eq!(rt; table.lines.len(), 1);
+    let line = &table.lines[0];
+    assert_eq!(rt; line.outputs.words(), [Word::from_number(2, 2)].as_slice());
+    assert_eq!(rt; line.settle, 0);
+    Ok(())
+}
+
+#[test]
+fn widths_past_the_ends_are_not_well_formed(rt: HostRuntime) -> Result<(), Fail> {
+    let alloc = rt.alloc();
+    for (nets, width, want) in [
+        (0, 1, true),
+        (0, 64, true),
+        (1, 1, true),
+        (2, 2, true),
+        (0, 0, false),
+        (0, 65, false),
+        (1, 2, false),
+    ] {
+        let nets = Nets::new(Vec::from_slice(alloc, &[0, 1][..nets])?);
+        let mut inputs = Vec::new(alloc);
+        inputs.push(Port::new(nets, width))?;
+        let mut odd = circuit(alloc, &[], &[], &[], &[])?;
+        let outputs = Vec::new(alloc);
+        odd.parts.push(Sample {
+            kind: Kind::Not,
+            inputs,
+            outputs,
+        })?;
+        assert_eq!(rt; is_well_formed(&odd), want, "width {width}");
+    }
+    Ok(())
 }

@@ -6,7 +6,7 @@ use Rattle.lg_timing.specs.Circuit.{Port, Part}
 use Rattle.lg_timing.specs.Settling.{IsSteady}
 use Rattle.lg_timing.specs.Samples.{not_gate, and_gate, constant, flip_flop}
 use Rattle.lg_timing.proofs.SampleLemmas.{steady_gate, steady_flip_flop}
-use Rattle.lg_timing.proofs.tests.expect_table.Goals as goal
+use Rattle.lg_timing.proofs.tests.table_of.Goals as goal
 
 steady_kind : (k : Kind) (inputs outputs : List Port)
     → IsSteady 5 (elim k as (λ x. Part) [ Not ↦ not_gate inputs outputs | And ↦ and_gate inputs outputs | Constant ↦ constant inputs outputs | FlipFlop ↦ flip_flop inputs outputs ])
