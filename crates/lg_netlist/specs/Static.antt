@@ -9,7 +9,7 @@ use Rattle.lg_netlist.specs.declared.netlist.PinUse.{PinUse}
 use Rattle.lg_netlist.specs.declared.netlist.Netlist.{Netlist}
 use Rattle.lg_netlist.specs.Cell.{gate_word}
 
--- the pins with their places, without the clock pin
+-- the pins without the clock pin
 abbrev pub data_pins : Netlist → List PinUse
 data_pins n = map (λ (p : ℕ × PinUse). p.1) (filter (λ (p : ℕ × PinUse). not (is_clock_pin n.clock_pin p.0)) (enumerate_from 0 n.pins))
   where

@@ -41,7 +41,7 @@ pub record IsFittingPin (nets : ℕ) (p : PinUse) : Type 0 where
   pub one_bit : length p.bits ≡ 1
   pub on_nets : AreNets nets p.bits
 
--- parts and pins fit and are counted in 32 bits, names of pins differ, and the clock pin is an input pin
+-- parts and pins fit, parts are counted in 32 bits, names of pins differ, and the clock pin is an input pin
 pub record IsValid (n : Netlist) : Type 0 where
   pub few_parts : length n.parts < 2 ^ 32
   pub parts : All (IsFittingPart n.nets) n.parts

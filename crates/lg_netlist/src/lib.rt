@@ -1,4 +1,4 @@
-//! Flat netlists of circuits: what is joined to what, how pins are named, and the values without time.
+//! Flat netlists of circuits: what is joined to what, how pins are named, and which have no two gates in a chain.
 #![tactic(auto)]
 
 mod names;

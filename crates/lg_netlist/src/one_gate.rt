@@ -1,4 +1,4 @@
-//! Circuits of one gate between pins.
+//! Circuits whose gates read input pins alone.
 
 ghost use Rattle.std.specs.Prelude.{◌≡◌, ◌<◌, ◌++◌, ◌||◌, length, All, IfOk, OnOk};
 ghost use Rattle.std.specs.Bool.{OnTrue};
