@@ -1,6 +1,6 @@
 -- Four-valued logic, after the Logisim-evolution user guide, "Wire colors": a wire carries a 0, a 1, a
 -- floating bit, which nothing drives, or an error.
-use Rattle.std.specs.Prelude.{◌≡◌, ℕ, Bool, true, false, refl}
+use Rattle.std.specs.Prelude.{◌≡◌, ℕ, Bool, true, false, ◌||◌, refl}
 use Rattle.std.specs.Cmp.{IsEquivalence}
 use Rattle.std.proofs.Common.{ap}
 use Rattle.lg_value.specs.declared.bit.Bit.{Bit}
@@ -13,6 +13,16 @@ same_bit One One = true
 same_bit Unknown Unknown = true
 same_bit Error Error = true
 same_bit _ _ = false
+
+-- 0 or 1
+abbrev pub is_defined_bit : Bit → Bool
+is_defined_bit bit = same_bit Zero bit || same_bit One bit
+
+-- the inversion of a bit: an undefined one gives an error
+abbrev pub not_bit : Bit → Bit
+not_bit Zero = One
+not_bit One = Zero
+not_bit _ = Error
 
 -- the bit of a wire that two drivers share: an unknown bit yields to the other, equal bits stay,
 -- and all else is an error
