@@ -1,3 +1,4 @@
 mod FilesLemmas
 mod HostLemmas
 mod SinkLemmas
+pub mod Written

@@ -7,6 +7,11 @@ use Rattle.lg_io.specs.Fault.{next_count}
 use Rattle.lg_io.specs.declared.fault.FileFault.{FileFault}
 use Rattle.lg_io.specs.declared.fault.FileFault.TheVariants.{Missing, TooLong, Failed, Memory}
 
+-- what a contract sees of files: what is held by name, where they tell it (None: nothing), and how often a read has failed
+pub record Seen : Type 0 where
+  pub held : Option (List ℕ → Option (List ℕ))
+  pub faults : ℕ
+
 -- what a read of at most so many bytes may answer for what is held under its name (None: nothing)
 abbrev pub IsReadAnswer : Option (List ℕ) → ℕ → Result (Vec ℕ Global) FileFault → Type 0
 IsReadAnswer found most (Ok bytes) = (found ≡ Some bytes.items) × (length bytes.items ≤ most)

@@ -46,9 +46,7 @@ impl<R: rt::Files> HostFiles<R> {
 }
 
 impl<R: rt::Files> Files for HostFiles<R> {
-    ghost held = { λ _. None };
-
-    ghost faults = { λ faults. faults };
+    ghost seen = { λ faults. record { held = None; faults = faults } };
 
     /// As the trait says. A name is a path, and a directory under it is a fault.
     fn read(&mut self, alloc: Global, name: &str, most: usize) -> Result<Vec<u8>, FileFault>

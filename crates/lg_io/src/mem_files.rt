@@ -59,9 +59,7 @@ impl MemFiles {
 }
 
 impl Files for MemFiles {
-    ghost held = { λ files. Some (content_of files.entries) };
-
-    ghost faults = { λ files. files.faults };
+    ghost seen = { λ files. record { held = Some (content_of files.entries); faults = files.faults } };
 
     /// As the trait says. A call that fails is not looked up.
     fn read(&mut self, alloc: Global, name: &str, most: usize) -> Result<Vec<u8>, FileFault>

@@ -91,9 +91,7 @@ impl MemSink {
 }
 
 impl Sink for MemSink {
-    ghost taken = { λ sink. Some sink.taken };
-
-    ghost faults = { λ sink. sink.faults };
+    ghost seen = { λ sink. record { taken = Some sink.taken; faults = sink.faults } };
 
     /// As the trait says. A call also fails where there is too little room for what it would take.
     fn write(&mut self, bytes: &[u8]) -> Result<usize, SinkFault>

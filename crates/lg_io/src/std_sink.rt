@@ -44,9 +44,7 @@ impl<W: Write> StdSink<W> {
 }
 
 impl<W: Write> Sink for StdSink<W> {
-    ghost taken = { λ _. None };
-
-    ghost faults = { λ faults. faults };
+    ghost seen = { λ faults. record { taken = None; faults = faults } };
 
     fn write(&mut self, bytes: &[u8]) -> Result<usize, SinkFault>
         ensures within { IfOk result (λ n. n ≤ length bytes.now) }

@@ -1,12 +1,13 @@
-use Rattle.std.proofs.Common.{length, take, ◌-◌, ◌≡◌, ◌≤◌, ◌++◌, option_map}
+use Rattle.std.proofs.Common.{length, take, ◌-◌, ◌≡◌, ◌≤◌}
+use Rattle.lg_io.specs.Sink.{Took}
 use Rattle.lg_io.proofs.sink.write_all.Given as goal
 
 abbrev pub invariant-loop-done : goal.invariant-loop-done
 invariant-loop-done g l =
     record {
       within : l.done ≤ length l.bytes;
-      taken : g.S.Sink.taken l.sink ≡ option_map (λ before. before ++ take l.done l.bytes) (g.S.Sink.taken l.initial.sink);
-      never_falls : g.S.Sink.faults l.initial.sink ≤ g.S.Sink.faults l.sink;
+      taken : Took (g.S.Sink.seen l.initial.sink) (g.S.Sink.seen l.sink) (take l.done l.bytes);
+      never_falls : (g.S.Sink.seen l.initial.sink).faults ≤ (g.S.Sink.seen l.sink).faults;
       empty : l.done ≡ 0 → l.sink ≡ l.initial.sink;
     }
 
