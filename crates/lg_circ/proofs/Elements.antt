@@ -10,7 +10,8 @@ use Rattle.std.proofs.lemmas.Slice.Eq.{slice_eq-Decides}
 use Rattle.std.proofs.lemmas.Bool.Decides.{Decides-eqb, nat_tests}
 use Rattle.lg_circ.specs.declared.element.Element.{Element, roll-Element, out-roll-Element, roll-out-Element}
 use Rattle.lg_circ.specs.Tree.{name_of, attributes_of, text_of, children_of}
-use Rattle.lg_circ.specs.Grammar.{is_white, IsWhite, is_own, begins_name, continues_name, IsName, SpellsAttributes, SpellsContent, SpellsElement, SpellsText, names_differ, greatest_level}
+use Rattle.lg_circ.specs.Pairs.{names_differ}
+use Rattle.lg_circ.specs.Grammar.{is_white, IsWhite, is_own, begins_name, continues_name, IsName, SpellsAttributes, SpellsContent, SpellsElement, SpellsText, greatest_level}
 use Rattle.lg_circ.specs.Meaning.{◌>>=◌}
 use Rattle.lg_circ.specs.Reading.{front_of, rest_of, after_mark, tag_at, after_last_tag, content_at, empty_at, open_at, element_at, tree_at}
 use Rattle.lg_circ.proofs.Marks.{bind_some, guard_some, after_mark_takes}

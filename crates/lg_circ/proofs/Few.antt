@@ -13,7 +13,8 @@ use Rattle.lg_circ.specs.declared.project.Comp.{Comp}
 use Rattle.lg_circ.specs.declared.project.Wire.{Wire}
 use Rattle.lg_circ.specs.declared.project.Sheet.{Sheet}
 use Rattle.lg_circ.specs.declared.project.Project.{Project}
-use Rattle.lg_circ.specs.Tree.{name_of, children_of, is_named, children_named, child_named, value_under, attribute}
+use Rattle.lg_circ.specs.Pairs.{value_under}
+use Rattle.lg_circ.specs.Tree.{name_of, children_of, is_named, children_named, child_named, attribute}
 use Rattle.lg_circ.specs.Grammar.{SpellsContent, SpellsElement, greatest_level}
 use Rattle.lg_circ.specs.Meaning.{◌>>=◌, each, lib_of, comp_of, wire_of, sheet_of, options_of, is_error, limit_of}
 use Rattle.lg_circ.specs.Plain.{IsPlainProject}
@@ -119,7 +120,8 @@ project_few bytes project is =
       libs = libs;
       main = child_named (codes "main") root >>= attribute (codes "name");
       strict = is_error (value_under (codes "gateUndefined") options);
-      limit = limit_of (value_under (codes "simlimit") options);
+      limit = (limit_of (value_under (codes "simlimit") options)).0;
+      limit_in_range = (limit_of (value_under (codes "simlimit") options)).1;
       sheets = sheets;
     } in
     let a = bind_some (each lib_of (children_named (codes "lib") root)) (λ libs. options_of (child_named (codes "options") root) >>= λ options. each sheet_of (children_named (codes "circuit") root) >>= λ sheets. Some (made libs options sheets)) project is.meaning in

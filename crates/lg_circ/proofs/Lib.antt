@@ -4,6 +4,7 @@ pub mod Pieces
 pub mod Tags
 pub mod Elements
 pub mod Loops
+pub mod Evidence
 pub mod Numbers
 pub mod Each
 pub mod Plainness

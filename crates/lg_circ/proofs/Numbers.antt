@@ -1,43 +1,42 @@
 -- Numbers in decimal digits.
-use Rattle.std.proofs.Common.{◌≡◌, ◌≢◌, ℕ, ◌+◌, ◌-◌, ◌*◌, ◌<◌, ◌≤◌, false, ◌&&◌, eqb, List, [], ◌∷◌, ◌++◌, length, get_or, drop, Option, Some, None, refl, sym, ap, ◌∙◌, arith, drop-cons, add-one}
+use Rattle.std.proofs.Common.{◌≡◌, ◌≢◌, ℕ, ◌+◌, ◌-◌, ◌*◌, ◌^◌, ◌<◌, ◌≤◌, false, eqb, List, [], ◌∷◌, ◌++◌, length, drop, Option, Some, None, refl, sym, ap, ◌∙◌, arith, add-one}
 use Rattle.std.specs.Prelude.{fold, codes, pos, neg_ℤ}
 use Rattle.std.specs.List.{list_all, before_first}
+use Rattle.std.specs.Char.{is_ascii_digit}
 use Rattle.std.specs.Str.{bytes_eq}
-use Rattle.std.proofs.lemmas.Bool.{and_right, cond-true, cond-false, lt-leb, ne_eqb}
-use Rattle.lg_circ.specs.Grammar.{is_between}
-use Rattle.lg_circ.specs.Meaning.{◌>>=◌, is_digit, number_of, number_between, size_of, coordinate_of, before_end, coordinates_of, point_of}
+use Rattle.std.proofs.Math.Nat.{pow-suc, pow-le-pow_right}
+use Rattle.std.proofs.lemmas.Bool.{cond-true, cond-false, ne_eqb}
+use Rattle.lg_circ.specs.Meaning.{◌>>=◌, number_of, size_of, coordinate_of, before_end, coordinates_of, point_of}
 use Rattle.lg_circ.proofs.Elements.{bytes_same}
 
 -- the number that more digits make of one
 abbrev pub goes_to : ℕ → List ℕ → ℕ
 goes_to n digits = fold (λ n c. 10 * n + (c - 48)) n digits
 
-pub grows : (n : ℕ) (digits : List ℕ) → n ≤ goes_to n digits
-grows n [] = omega arith
-grows n (c ∷ cs) = let more = grows (10 * n + (c - 48)) cs in omega (arith, more)
-
 -- how far the digits were read
 pub record ReadsNumber (n i : ℕ) (digits : List ℕ) : Type 0 where
   pub value : goes_to n (drop i digits) ≡ number_of digits
-  pub digits_left : list_all is_digit (drop i digits) ≡ list_all is_digit digits
-  pub small : n ≤ 1000000
+  pub digits_left : list_all is_ascii_digit (drop i digits) ≡ list_all is_ascii_digit digits
+  pub small : n < 10 ^ i
 
 pub number_start : (digits : List ℕ) → ReadsNumber 0 0 digits
 number_start digits = record { value = refl; digits_left = refl; small = omega arith }
 
-dropped : (i : ℕ) (digits : List ℕ) → i < length digits → drop i digits ≡ get_or digits i 0 ∷ drop (i + 1) digits
-dropped i digits lt = rw add-one (drop-cons digits i 0 lt)
+-- up to six digits say less than a million
+pub below_million : (n i : ℕ) (digits : List ℕ) → i < length digits → length digits ≤ 7 → ReadsNumber n i digits → n < 1000000
+below_million n i digits within short so_far =
+    let most : 10 ^ i ≤ 10 ^ 6 = pow-le-pow_right {n = 10} (omega arith) {i = i} {j = 6} (omega (arith, within, short)) in
+    omega (arith, so_far.small, most)
 
-none_above : (digits : List ℕ) → 1000000 < number_of digits → number_between 0 1000000 digits ≡ None
-none_above [] lt = refl
-none_above (c ∷ cs) lt =
-    cond-false (list_all is_digit (c ∷ cs) && is_between 0 1000000 (number_of (c ∷ cs))) (Some (number_of (c ∷ cs))) None (and_right _ _ (and_right _ _ (lt-leb (number_of (c ∷ cs)) 1000000 lt)))
+-- one more digit
+pub one_digit_more : (n i c : ℕ) → n < 10 ^ i → c - 48 ≤ 9 → 10 * n + (c - 48) < 10 ^ (i + 1)
+one_digit_more n i c small digit = let more : 10 ^ (i + 1) ≡ 10 ^ i * 10 = rw add-one (pow-suc 10 i) in omega (arith, small, digit, more)
 
-pub number_too_large : (n i : ℕ) (digits : List ℕ) → i < length digits → 1000000 < 10 * n + (get_or digits i 0 - 48) → ReadsNumber n i digits → number_between 0 1000000 digits ≡ None
-number_too_large n i digits lt large so_far =
-    let more = grows (10 * n + (get_or digits i 0 - 48)) (drop (i + 1) digits) in
-    let value : goes_to (10 * n + (get_or digits i 0 - 48)) (drop (i + 1) digits) ≡ number_of digits = ap (goes_to n) (sym (dropped i digits lt)) ∙ so_far.value in
-    none_above digits (omega (arith, more, value, large))
+-- seven digits
+pub seven_digits : (n i : ℕ) → i ≤ 7 → n < 10 ^ i → n < 10000000
+seven_digits n i short small =
+    let most : 10 ^ i ≤ 10 ^ 7 = pow-le-pow_right {n = 10} (omega arith) {i = i} {j = 7} short in
+    omega (arith, small, most)
 
 pub no_sign : (text : List ℕ) → ((rest : List ℕ) → text ≢ 45 ∷ rest) → size_of text ≡ None → coordinate_of text ≡ None
 no_sign [] h none = refl

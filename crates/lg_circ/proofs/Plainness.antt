@@ -1,6 +1,6 @@
 -- What follows from a tree being a plain project.
 use Rattle.std.proofs.Common.{◌≡◌, ℕ, zero, suc, ◌≤◌, Bool, true, false, eqb, ◌&&◌, ◌||◌, List, [], ◌∷◌, length, Option, Some, None, refl, ap, ◌∙◌, arith, inl, inr}
-use Rattle.std.specs.Prelude.{codes, find, is_some}
+use Rattle.std.specs.Prelude.{codes, find, is_some, IsTrue}
 use Rattle.std.specs.List.{list_all}
 use Rattle.std.specs.Str.{bytes_eq}
 use Rattle.std.proofs.lemmas.Bool.{and_parts, and_from, or_cases, cond-false, eqb-true, le-leb}
@@ -9,10 +9,13 @@ use Rattle.lg_circ.specs.declared.element.Element.{Element}
 use Rattle.lg_circ.specs.declared.project.Sheet.{Sheet}
 use Rattle.lg_circ.specs.declared.project.Project.{Project}
 use Rattle.lg_circ.specs.Grammar.{is_white}
-use Rattle.lg_circ.specs.Tree.{name_of, attributes_of, text_of, children_of, is_named, children_named, child_named, value_under, attribute}
+use Rattle.lg_circ.specs.Bounds.{is_limit}
+use Rattle.lg_circ.specs.Pairs.{value_under}
+use Rattle.lg_circ.specs.Tree.{name_of, attributes_of, text_of, children_of, is_named, children_named, child_named, attribute}
 use Rattle.lg_circ.specs.Meaning.{◌>>=◌, each, lib_of, sheet_of, options_of, is_error, limit_of, project_of}
 use Rattle.lg_circ.specs.Plain.{has_just, is_plain_leaf, is_plain_setting, is_plain_wire, is_plain_comp, is_plain_circuit, is_plain_lib, is_plain}
 use Rattle.lg_circ.specs.Reading.{are_few}
+use Rattle.lg_circ.proofs.Evidence.{one_evidence}
 use Rattle.lg_circ.proofs.Pieces.{bind_at}
 use Rattle.lg_circ.proofs.Elements.{all_allowed, same_bytes}
 
@@ -109,9 +112,9 @@ find_none other lib circuit (e ∷ es) all =
     cond-false (is_named other e) (Some e) (find (is_named other) es) (belongs_other other e lib circuit b.0) ∙ find_none other lib circuit es b.1
 
 -- a plain project says its libraries and its circuits, and the usual settings
-pub plain_says : (root : Element) (libs : List (List ℕ × List ℕ)) (sheets : List Sheet) → is_plain root ≡ true → each lib_of (children_named (codes "lib") root) ≡ Some libs → each sheet_of (children_named (codes "circuit") root) ≡ Some sheets
-    → project_of root ≡ Some (record { libs = libs; main = None; strict = false; limit = 1000; sheets = sheets })
-plain_says root libs sheets h el es =
+pub plain_says : (root : Element) (libs : List (List ℕ × List ℕ)) (sheets : List Sheet) (in_range : IsTrue (is_limit 1000)) → is_plain root ≡ true → each lib_of (children_named (codes "lib") root) ≡ Some libs → each sheet_of (children_named (codes "circuit") root) ≡ Some sheets
+    → project_of root ≡ Some (record { libs = libs; main = None; strict = false; limit = 1000; sheets = sheets; limit_in_range = in_range })
+plain_says root libs sheets in_range h el es =
     let all = (plain_parts root h).1 in
     let no_options : child_named (codes "options") root ≡ None = find_none (codes "options") refl refl (children_of root) all in
     let no_main : child_named (codes "main") root ≡ None = find_none (codes "main") refl refl (children_of root) all in
@@ -119,10 +122,12 @@ plain_says root libs sheets h el es =
       libs = ls;
       main = main >>= attribute (codes "name");
       strict = is_error (value_under (codes "gateUndefined") options);
-      limit = limit_of (value_under (codes "simlimit") options);
+      limit = (limit_of (value_under (codes "simlimit") options)).0;
+      limit_in_range = (limit_of (value_under (codes "simlimit") options)).1;
       sheets = ss;
     }) in
     bind_at (each lib_of (children_named (codes "lib") root)) (λ ls. options_of (child_named (codes "options") root) >>= λ options. each sheet_of (children_named (codes "circuit") root) >>= λ ss. says ls options ss (child_named (codes "main") root)) libs el
     ∙ bind_at (options_of (child_named (codes "options") root)) (λ options. each sheet_of (children_named (codes "circuit") root) >>= λ ss. says libs options ss (child_named (codes "main") root)) [] (ap options_of no_options)
     ∙ bind_at (each sheet_of (children_named (codes "circuit") root)) (λ ss. says libs [] ss (child_named (codes "main") root)) sheets es
     ∙ ap (λ (m : Option Element). says libs [] sheets m) no_main
+    ∙ ap (λ (h : IsTrue (is_limit 1000)). Some (record { libs = libs; main = None; strict = false; limit = 1000; sheets = sheets; limit_in_range = h })) (one_evidence (is_limit 1000) refl in_range)

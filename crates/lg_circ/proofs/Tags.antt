@@ -5,7 +5,8 @@ use Rattle.std.specs.List.{list_all}
 use Rattle.std.proofs.lemmas.Bool.{and_parts, and_from, cond-true, cond-false}
 use Rattle.std.proofs.lemmas.List.{length-append}
 use Rattle.std.proofs.lemmas.Option.{same_Some}
-use Rattle.lg_circ.specs.Grammar.{is_white, IsWhite, IsGap, continues_name, IsName, SpellsAttribute, SpellsAttributes, names_differ}
+use Rattle.lg_circ.specs.Pairs.{names_differ}
+use Rattle.lg_circ.specs.Grammar.{is_white, IsWhite, IsGap, continues_name, IsName, SpellsAttribute, SpellsAttributes}
 use Rattle.lg_circ.specs.Meaning.{◌>>=◌}
 use Rattle.lg_circ.specs.Reading.{ends_tag, begins, front_of, rest_of, after_mark, name_at, attribute_at, attributes_at, tag_at, after_last_tag}
 use Rattle.lg_circ.proofs.Marks.{bind_some, guard_some, after_mark_takes, after_mark_again}

@@ -1,9 +1,11 @@
 -- The spelling of elements: which bytes are the text of which tree. A tree has many texts.
 -- Source: the `.circ` form of Logisim-evolution, in the plain form without comments and references.
-use Rattle.std.specs.Prelude.{◌≡◌, ℕ, zero, suc, ◌<◌, ◌==◌, nat_le, Bool, true, not, ◌&&◌, ◌||◌, IsTrue, List, [], ◌∷◌, ◌++◌, length, codes, ◌⊎◌}
-use Rattle.std.specs.List.{list_all, list_any}
-use Rattle.std.specs.Str.{IsUtf8, bytes_eq}
+use Rattle.std.specs.Prelude.{◌≡◌, ℕ, zero, suc, ◌<◌, ◌==◌, Bool, not, ◌&&◌, ◌||◌, IsTrue, List, [], ◌∷◌, ◌++◌, length, codes, ◌⊎◌}
+use Rattle.std.specs.Char.{is_ascii_alphabetic, is_ascii_digit}
+use Rattle.std.specs.List.{list_all}
+use Rattle.std.specs.Str.{IsUtf8}
 use Rattle.lg_circ.specs.declared.element.Element.{Element}
+use Rattle.lg_circ.specs.Pairs.{names_differ}
 use Rattle.lg_circ.specs.Tree.{name_of, attributes_of, text_of, children_of}
 
 -- space, tab, carriage return, line feed
@@ -14,17 +16,13 @@ is_white c = c == 32 || c == 9 || c == 13 || c == 10
 abbrev pub IsWhite : List ℕ → Type 0
 IsWhite bytes = IsTrue (list_all is_white bytes)
 
--- from low to high, both included
-abbrev pub is_between : ℕ → ℕ → ℕ → Bool
-is_between low high c = nat_le low c && nat_le c high
-
 -- an ASCII letter, `_` or `:`
 abbrev pub begins_name : ℕ → Bool
-begins_name c = is_between 65 90 c || is_between 97 122 c || c == 95 || c == 58
+begins_name c = is_ascii_alphabetic c || c == 95 || c == 58
 
 -- one of those, a digit, `-` or `.`
 abbrev pub continues_name : ℕ → Bool
-continues_name c = begins_name c || is_between 48 57 c || c == 45 || c == 46
+continues_name c = begins_name c || is_ascii_digit c || c == 45 || c == 46
 
 -- a name of the grammar
 abbrev pub IsName : List ℕ → Type 0
@@ -88,11 +86,6 @@ pub record SpellsEmpty (e : Element) (attributes bytes : List ℕ) : Type 0 wher
   pub no_text : text_of e ≡ []
   pub no_children : children_of e ≡ []
   pub spelled : bytes ≡ codes "<" ++ name_of e ++ attributes ++ white ++ codes "/>"
-
--- no name stands twice
-abbrev pub names_differ : List (List ℕ × List ℕ) → Bool
-names_differ [] = true
-names_differ (a ∷ more) = not (list_any (λ (b : List ℕ × List ℕ). bytes_eq a.0 b.0) more) && names_differ more
 
 -- how an element with at most so many levels is spelled; an element without others inside has one level
 unfoldable pub SpellsElement : ℕ → Element → List ℕ → Type 0

@@ -1,6 +1,7 @@
 -- The project of a tree: what its elements say. All other elements and attributes are passed over.
 -- Source: the `.circ` form of Logisim-evolution, in the profile of this project.
-use Rattle.std.specs.Prelude.{ℕ, ◌+◌, ◌-◌, ◌*◌, ◌==◌, nat_le, Bool, false, ◌&&◌, List, [], ◌∷◌, ◌++◌, length, fold, Option, Some, None, option_and_then, unwrap_or, if◌then◌else◌, codes, ℤ, pos, neg_ℤ}
+use Rattle.std.specs.Prelude.{ℕ, ◌+◌, ◌-◌, ◌*◌, ◌==◌, nat_le, Bool, false, ◌&&◌, IsTrue, refl, List, [], ◌∷◌, ◌++◌, length, fold, Option, Some, None, option_and_then, unwrap_or, if◌then◌else◌, codes, ℤ, pos, neg_ℤ}
+use Rattle.std.specs.Char.{is_ascii_digit}
 use Rattle.std.specs.List.{before_first, after_first, list_all}
 use Rattle.std.specs.Str.{bytes_eq}
 use Rattle.lg_circ.specs.declared.element.Element.{Element}
@@ -9,8 +10,10 @@ use Rattle.lg_circ.specs.declared.project.Wire.{Wire}
 use Rattle.lg_circ.specs.declared.project.Comp.{Comp}
 use Rattle.lg_circ.specs.declared.project.Sheet.{Sheet}
 use Rattle.lg_circ.specs.declared.project.Project.{Project}
-use Rattle.lg_circ.specs.Grammar.{is_between}
-use Rattle.lg_circ.specs.Tree.{text_of, children_named, child_named, value_under, attribute}
+use Rattle.lg_circ.specs.declared.project.TheConstants.{USUAL_LIMIT}
+use Rattle.lg_circ.specs.Bounds.{is_on_sheet, is_limit, given}
+use Rattle.lg_circ.specs.Pairs.{value_under}
+use Rattle.lg_circ.specs.Tree.{text_of, children_named, child_named, attribute}
 
 -- goes on with what is there
 infixl 10 ◌>>=◌
@@ -25,22 +28,18 @@ each f (x ∷ xs) = do
   ys ← each f xs
   Some (y ∷ ys)
 
-abbrev pub is_digit : ℕ → Bool
-is_digit c = is_between 48 57 c
-
 -- the number that decimal digits say
 abbrev pub number_of : List ℕ → ℕ
 number_of digits = fold (λ n c. 10 * n + (c - 48)) 0 digits
 
--- decimal digits, at least one, that say a number in a range
-abbrev pub number_between : ℕ → ℕ → List ℕ → Option ℕ
-number_between low high [] = None
-number_between low high (c ∷ cs) =
-    if list_all is_digit (c ∷ cs) && is_between low high (number_of (c ∷ cs)) then Some (number_of (c ∷ cs)) else None
+-- the number of a text of decimal digits, at least one
+abbrev pub decimal_of : List ℕ → Option ℕ
+decimal_of [] = None
+decimal_of (c ∷ cs) = if list_all is_ascii_digit (c ∷ cs) then Some (number_of (c ∷ cs)) else None
 
--- the size of a coordinate: 1 to 7 decimal digits, at most 1,000,000
+-- the size of a coordinate: 1 to 7 decimal digits
 abbrev pub size_of : List ℕ → Option ℕ
-size_of digits = if nat_le (length digits) 7 then number_between 0 1000000 digits else None
+size_of digits = if nat_le (length digits) 7 then decimal_of digits else None
 
 -- a coordinate, with a `-` where it is negative
 abbrev pub coordinate_of : List ℕ → Option ℤ
@@ -82,18 +81,20 @@ setting_of e = do
 abbrev pub settings_of : Element → Option (List (List ℕ × List ℕ))
 settings_of e = each setting_of (children_named (codes "a") e)
 
+-- a wire, whose ends are on the sheet
 abbrev pub wire_of : Element → Option Wire
 wire_of e = do
   from ← attribute (codes "from") e >>= point_of
   to ← attribute (codes "to") e >>= point_of
-  Some (record { from = from; to = to })
+  given (is_on_sheet from && is_on_sheet to) (λ on_sheet. record { from = from; to = to; on_sheet = on_sheet })
 
+-- a component, which stands on the sheet
 abbrev pub comp_of : Element → Option Comp
 comp_of e = do
   name ← attribute (codes "name") e
   loc ← attribute (codes "loc") e >>= point_of
   settings ← settings_of e
-  Some (record { lib = attribute (codes "lib") e; name = name; loc = loc; attrs = record { list = settings } })
+  given (is_on_sheet loc) (λ on_sheet. record { lib = attribute (codes "lib") e; name = name; loc = loc; attrs = record { list = settings }; on_sheet = on_sheet })
 
 abbrev pub sheet_of : Element → Option Sheet
 sheet_of e = do
@@ -107,9 +108,13 @@ abbrev pub options_of : Option Element → Option (List (List ℕ × List ℕ))
 options_of None = Some []
 options_of (Some e) = settings_of e
 
--- the limit that a text says: a decimal from 1 to 1,000,000, and else 1000
-abbrev pub limit_of : Option (List ℕ) → ℕ
-limit_of text = unwrap_or (text >>= number_between 1 1000000) 1000
+-- a number that a project may set as its limit
+abbrev pub Limit : Type 0
+Limit = (n : ℕ) × IsTrue (is_limit n)
+
+-- the limit that a text says: a decimal in its range, and else the usual one
+abbrev pub limit_of : Option (List ℕ) → Limit
+limit_of text = unwrap_or (text >>= decimal_of >>= λ n. given (is_limit n) (λ in_range. (n, in_range))) (USUAL_LIMIT, refl)
 
 abbrev pub is_error : Option (List ℕ) → Bool
 is_error None = false
@@ -124,6 +129,7 @@ project_of root = do
     libs = libs;
     main = child_named (codes "main") root >>= attribute (codes "name");
     strict = is_error (value_under (codes "gateUndefined") options);
-    limit = limit_of (value_under (codes "simlimit") options);
+    limit = (limit_of (value_under (codes "simlimit") options)).0;
     sheets = sheets;
+    limit_in_range = (limit_of (value_under (codes "simlimit") options)).1;
   })

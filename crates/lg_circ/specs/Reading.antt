@@ -1,6 +1,5 @@
 -- Reading bytes from the left: a value and the bytes after it, where one stands there. The private functions of the reader cite these.
-use Rattle.std.specs.Prelude.{◌≡◌, ℕ, zero, suc, ◌==◌, nat_le, Bool, false, not, ◌&&◌, ◌||◌, List, [], ◌∷◌, ◌++◌, map, length, Option, Some, None, is_some, Result, Ok, Err, codes, if◌then◌else◌}
-use denote.Bor.{Bor}
+use Rattle.std.specs.Prelude.{◌≡◌, ℕ, zero, suc, ◌==◌, nat_le, Bool, false, not, ◌&&◌, ◌||◌, List, [], ◌∷◌, ◌++◌, length, Option, Some, None, is_some, Result, Ok, Err, codes, if◌then◌else◌}
 use Rattle.std.specs.Str.{bytes_eq}
 use Rattle.lg_circ.specs.declared.element.Element.{Element, roll-Element}
 use Rattle.lg_circ.specs.declared.fault.CircFault.{CircFault}
@@ -9,7 +8,8 @@ use Rattle.lg_circ.specs.declared.project.Project.{Project}
 use Rattle.lg_circ.specs.declared.reading.Tag.{Tag}
 use Rattle.lg_circ.specs.declared.class.Class.{Class}
 use Rattle.lg_circ.specs.declared.class.Class.TheVariants.{White, NameStart, Name, Quoted, Own, TagEnd}
-use Rattle.lg_circ.specs.Grammar.{is_white, begins_name, continues_name, is_own, names_differ, greatest_level}
+use Rattle.lg_circ.specs.Pairs.{names_differ}
+use Rattle.lg_circ.specs.Grammar.{is_white, begins_name, continues_name, is_own, greatest_level}
 use Rattle.lg_circ.specs.Tree.{name_of}
 use Rattle.lg_circ.specs.Meaning.{◌>>=◌, project_of}
 use Rattle.lg_circ.specs.Plain.{is_plain}
@@ -151,7 +151,3 @@ project_at bytes = do
 -- what the code's tag is to the functions here
 abbrev pub view_tag : Tag → List ℕ × List (List ℕ × List ℕ) × List ℕ
 view_tag tag = (tag.name.now, tag.attributes, tag.rest.now)
-
--- the texts that a list of references leads to
-abbrev pub texts : List (Bor (List ℕ)) → List (List ℕ)
-texts references = map (λ (r : Bor (List ℕ)). r.now) references

@@ -1,7 +1,8 @@
 -- Elements as trees: the name, the attributes, the own characters and the elements inside.
-use Rattle.std.specs.Prelude.{ℕ, List, Bool, Option, find, filter, option_map}
+use Rattle.std.specs.Prelude.{ℕ, List, Bool, Option, find, filter}
 use Rattle.std.specs.Str.{bytes_eq}
 use Rattle.lg_circ.specs.declared.element.Element.{Element, out-Element}
+use Rattle.lg_circ.specs.Pairs.{value_under}
 
 abbrev pub name_of : Element → List ℕ
 name_of e = (out-Element e).name
@@ -26,10 +27,6 @@ children_named name e = filter (is_named name) (children_of e)
 -- the first element of this name right inside an element
 abbrev pub child_named : List ℕ → Element → Option Element
 child_named name e = find (is_named name) (children_of e)
-
--- the first value under a name
-abbrev pub value_under : List ℕ → List (List ℕ × List ℕ) → Option (List ℕ)
-value_under name pairs = option_map (λ (a : List ℕ × List ℕ). a.1) (find (λ (a : List ℕ × List ℕ). bytes_eq a.0 name) pairs)
 
 -- the value of an element's attribute
 abbrev pub attribute : List ℕ → Element → Option (List ℕ)

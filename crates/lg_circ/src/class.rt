@@ -30,7 +30,7 @@ impl Class {
         match self {
             Class::White => c == b' ' || c == b'\t' || c == b'\r' || c == b'\n',
             Class::NameStart => starts_name(c),
-            Class::Name => starts_name(c) || (b'0' <= c && c <= b'9') || c == b'-' || c == b'.',
+            Class::Name => starts_name(c) || c.is_ascii_digit() || c == b'-' || c == b'.',
             Class::Quoted => c != b'<' && c != b'&' && c != b'"',
             Class::Own => c != b'<' && c != b'&',
             Class::TagEnd => c == b'>' || c == b'/',
@@ -41,7 +41,7 @@ impl Class {
 fn starts_name(c: u8) -> bool
     ensures { result ≡ begins_name c }
 {
-    (b'A' <= c && c <= b'Z') || (b'a' <= c && c <= b'z') || c == b'_' || c == b':'
+    c.is_ascii_alphabetic() || c == b'_' || c == b':'
 }
 
 /// Whether the first byte is of the class.

@@ -8,7 +8,7 @@ use std::alloc::{AllocError, AllocFailed};
 /// Why `read_project` gives no project.
 #[derive(Clone, Copy, Debug, PartialEq, Eq)]
 pub enum CircFault {
-    /// The text has more than 8,388,608 bytes.
+    /// The text has more than `GREATEST_LENGTH` bytes.
     TooLong,
     /// The text is no plain project, and no other is read yet.
     NotBuilt,

@@ -4,7 +4,9 @@
 mod class;
 mod element;
 mod fault;
+mod law;
 mod meaning;
+mod pairs;
 mod plain;
 mod point;
 mod project;
@@ -13,7 +15,11 @@ mod reading;
 
 pub use element::Element;
 pub use fault::CircFault;
-pub use project::{Attrs, Comp, Point, Project, Sheet, Wire};
+pub use law::one_tree;
+pub use pairs::value_under;
+pub use project::{
+    Attrs, Comp, FARTHEST, GREATEST_LIMIT, Point, Project, Sheet, USUAL_LIMIT, Wire,
+};
 pub use read::{GREATEST_LENGTH, read_project};
 
 #[cfg(test)]

@@ -1,6 +1,6 @@
 //! What a plain tree says as a project.
 
-ghost use Rattle.std.specs.Prelude.{◌≡◌, codes, IsTrue, option_and_then};
+ghost use Rattle.std.specs.Prelude.{◌≡◌, codes, IsTrue, Some, option_and_then};
 ghost use Rattle.lg_circ.specs.Tree.{attribute, children_named};
 ghost use Rattle.lg_circ.specs.Plain.{is_plain};
 ghost use Rattle.lg_circ.specs.Meaning.{each, point_of, lib_of, setting_of, settings_of, wire_of, comp_of, sheet_of, project_of};
@@ -10,13 +10,10 @@ use crate::element::Element;
 use crate::fault::CircFault;
 use crate::plain::{has_name, value_of};
 use crate::point::point;
-use crate::project::{Attrs, Comp, Point, Project, Sheet, Wire};
+use crate::project::{Attrs, Comp, Point, Project, Sheet, USUAL_LIMIT, Wire};
 use lg_text::Text;
 use sqlite_items::Items;
 use std::alloc::Global;
-
-/// How many busy instants a settling may have where the project sets no limit.
-const USUAL_LIMIT: u32 = 1000;
 
 /// The project of a plain tree, which has no elements `main` and `options`.
 pub fn project(alloc: Global, root: &Element) -> Result<Project, CircFault>
@@ -95,16 +92,26 @@ fn comp(alloc: Global, element: &Element) -> Result<Comp, CircFault>
     let name = copy_under(alloc, element, "name")?;
     let loc = point_under(element, "loc")?;
     let list = settings(alloc, element)?;
-    let lib = match value_of(element, "lib") {
-        Some(lib) => Some(Text::copy_of(alloc, lib.as_str())?),
-        None => None,
-    };
+    let lib = library_name(alloc, element)?;
+    if !loc.is_on_sheet() {
+        return Err(CircFault::NotBuilt);
+    }
     Ok(Comp {
         lib,
         name,
         loc,
         attrs: Attrs { list },
     })
+}
+
+// The name of the library that a component comes from.
+fn library_name(alloc: Global, element: &Element) -> Result<Option<Text>, CircFault>
+    ensures { Gives (λ l. l) result (Some (attribute (codes "lib") element.now)) }
+{
+    match value_of(element, "lib") {
+        Some(lib) => Ok(Some(Text::copy_of(alloc, lib.as_str())?)),
+        None => Ok(None),
+    }
 }
 
 fn settings(alloc: Global, element: &Element) -> Result<Items<(Text, Text)>, CircFault>
@@ -145,10 +152,13 @@ fn wires(alloc: Global, circuit: &Element) -> Result<Items<Wire>, CircFault>
 fn wire(element: &Element) -> Result<Wire, CircFault>
     ensures { Gives (λ w. w) result (wire_of element.now) }
 {
-    Ok(Wire {
-        from: point_under(element, "from")?,
-        to: point_under(element, "to")?,
-    })
+    let from = point_under(element, "from")?;
+    let to = point_under(element, "to")?;
+    if from.is_on_sheet() && to.is_on_sheet() {
+        Ok(Wire { from, to })
+    } else {
+        Err(CircFault::NotBuilt)
+    }
 }
 
 /// A copy of the value of the element's attribute of this name.

@@ -6,10 +6,11 @@ ghost use Rattle.std.specs.Option.{option_copied};
 ghost use Rattle.lg_circ.specs.Tree.{attribute, is_named, text_of};
 ghost use Rattle.lg_circ.specs.Grammar.{is_white};
 ghost use Rattle.lg_circ.specs.Plain.{has_just, is_plain_leaf, is_plain_setting, is_plain_wire, is_plain_comp, is_plain_circuit, is_plain_lib, is_plain};
-ghost use Rattle.lg_circ.specs.Reading.{texts};
+ghost use Rattle.lg_circ.specs.Pairs.{texts};
 
 use crate::class::Class;
 use crate::element::Element;
+use crate::pairs::value_under;
 use lg_text::Text;
 
 /// Whether the tree is a plain project: libraries and just one circuit.
@@ -124,10 +125,5 @@ pub fn has_name(element: &Element, name: &str) -> bool
 pub fn value_of<'a>(element: &'a Element, name: &str) -> Option<&'a Text>
     ensures { option_copied result ≡ attribute name.now element.now }
 {
-    for (other, value) in element.attributes.as_slice() {
-        if other.as_str() == name {
-            return Some(value);
-        }
-    }
-    None
+    value_under(name, element.attributes.as_slice())
 }

@@ -1,17 +1,14 @@
 //! Points in the text of attributes.
 
 ghost use denote.Bor.{Bor};
-ghost use Rattle.std.specs.Prelude.{◌≡◌, ◌==◌, List, ℕ, option_map};
+ghost use Rattle.std.specs.Prelude.{◌≡◌, ◌≤◌, ◌<◌, ◌==◌, List, ℕ, length, IfSome, option_map};
 ghost use Rattle.std.specs.List.{before_first, after_first};
-ghost use Rattle.lg_circ.specs.Meaning.{is_digit, number_between, size_of, coordinate_of, before_end, coordinates_of, point_of};
+ghost use Rattle.lg_circ.specs.Meaning.{decimal_of, size_of, coordinate_of, before_end, coordinates_of, point_of};
 
 use crate::project::Point;
 
 /// How many digits a coordinate has at most.
 const MOST_DIGITS: usize = 7;
-
-/// The greatest size of a coordinate.
-const GREATEST_SIZE: u32 = 1_000_000;
 
 /// The point of a text: `(x,y)` without spaces.
 pub fn point(text: &str) -> Option<Point>
@@ -58,7 +55,8 @@ fn coordinate(text: &str) -> Option<i32>
 }
 
 fn size(digits: &str) -> Option<u32>
-    ensures { result ≡ size_of digits.now }
+    ensures value { result ≡ size_of digits.now }
+    ensures small { IfSome result (λ n. n < 10000000) }
 {
     if digits.len() <= MOST_DIGITS {
         number(digits.as_bytes())
@@ -67,28 +65,21 @@ fn size(digits: &str) -> Option<u32>
     }
 }
 
-/// A number of at most `GREATEST_SIZE` in decimal digits, of which there is at least one.
+/// A number in decimal digits, of which there is at least one.
 fn number(digits: &[u8]) -> Option<u32>
-    ensures { result ≡ number_between 0 1000000 digits.now }
+    requires { length digits.now ≤ MOST_DIGITS }
+    ensures value { result ≡ decimal_of digits.now }
+    ensures small { IfSome result (λ n. n < 10000000) }
 {
     if digits.is_empty() {
         return None;
     }
     let mut number: u32 = 0;
     for c in digits {
-        if !is_digit(*c) {
+        if !c.is_ascii_digit() {
             return None;
         }
         number = 10 * number + u32::from(*c - b'0');
-        if number > GREATEST_SIZE {
-            return None;
-        }
     }
     Some(number)
-}
-
-fn is_digit(c: u8) -> bool
-    ensures { result ≡ is_digit c }
-{
-    b'0' <= c && c <= b'9'
 }

@@ -1,7 +1,20 @@
 //! Projects as the drawing tool keeps them: libraries, sheets, components and wires.
 
+ghost use Rattle.std.specs.Prelude.{◌≡◌, ◌&&◌, IsTrue};
+ghost use Rattle.lg_circ.specs.Bounds.{is_on_sheet, is_limit};
+
+use crate::pairs::{has_only, value_under};
 use lg_text::Text;
 use sqlite_items::Items;
+
+/// How far from the origin a component may stand and a wire may reach, along x and along y.
+pub const FARTHEST: u32 = 1_000_000;
+
+/// How many busy instants a project may allow a settling at most.
+pub const GREATEST_LIMIT: u32 = 1_000_000;
+
+/// How many busy instants a settling may have where the project sets no limit.
+pub const USUAL_LIMIT: u32 = 1000;
 
 /// A point of a sheet, in the drawing's units; `y` grows downwards.
 #[derive(Clone, Copy, Debug, PartialEq, Eq)]
@@ -10,11 +23,32 @@ pub struct Point {
     pub y: i32,
 }
 
-/// A wire from one point to another.
+impl Point {
+    /// Whether no coordinate is further than `FARTHEST` from the origin.
+    pub fn is_on_sheet(self) -> bool
+        ensures { result ≡ is_on_sheet self }
+    {
+        self.x.unsigned_abs() <= FARTHEST && self.y.unsigned_abs() <= FARTHEST
+    }
+}
+
+/// A wire from one point of a sheet to another; neither is further than `FARTHEST` from the origin.
 #[derive(Clone, Copy, Debug, PartialEq, Eq)]
 pub struct Wire {
     pub from: Point,
     pub to: Point,
+    pub ghost on_sheet: { IsTrue (is_on_sheet from && is_on_sheet to) },
+}
+
+impl Wire {
+    ghost use Rattle.lg_circ.specs.Straight.{is_straight};
+
+    /// Whether it is level or upright.
+    pub fn is_straight(self) -> bool
+        ensures { result ≡ is_straight self }
+    {
+        self.from.x == self.to.x || self.from.y == self.to.y
+    }
 }
 
 /// The attributes of a component, by name. Of one name twice the first counts.
@@ -23,7 +57,26 @@ pub struct Attrs {
     pub list: Items<(Text, Text)>,
 }
 
-/// A component on a sheet.
+impl Attrs {
+    ghost use Rattle.std.specs.Option.{option_copied};
+    ghost use Rattle.lg_circ.specs.Pairs.{value_under, has_only, texts};
+
+    /// The first value under a name.
+    pub fn value(&self, name: &str) -> Option<&Text>
+        ensures { option_copied result ≡ value_under name.now self.now.list }
+    {
+        value_under(name, self.list.as_slice())
+    }
+
+    /// Whether it has these names alone, each at most once. In time linear in the attributes where the names are few.
+    pub fn has_only(&self, names: &[&str]) -> bool
+        ensures { result ≡ has_only (texts names.now) self.now.list }
+    {
+        has_only(names, self.list.as_slice())
+    }
+}
+
+/// A component on a sheet, which stands no further than `FARTHEST` from the origin.
 #[derive(Debug, Drop)]
 pub struct Comp {
     /// The number of its library in the project; none for a use of a sheet.
@@ -33,6 +86,7 @@ pub struct Comp {
     /// Where it stands.
     pub loc: Point,
     pub attrs: Attrs,
+    pub ghost on_sheet: { IsTrue (is_on_sheet loc) },
 }
 
 /// One circuit of a project, with its components and wires in file order.
@@ -52,7 +106,8 @@ pub struct Project {
     pub main: Option<Text>,
     /// Whether a gate with an unattached input gives an error.
     pub strict: bool,
-    /// How many busy instants a settling may have.
+    /// How many busy instants a settling may have: 1 to `GREATEST_LIMIT`.
     pub limit: u32,
     pub sheets: Items<Sheet>,
+    pub ghost limit_in_range: { IsTrue (is_limit limit) },
 }

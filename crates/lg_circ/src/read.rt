@@ -1,8 +1,6 @@
 //! Plain projects, read from their text.
 
-ghost use Rattle.std.specs.Prelude.{List, ℕ, ◌≡◌, ◌+◌, ◌<◌, ◌≤◌, ◌↔◌, length, All, IfOk, OnOk, IsErrOf};
-ghost use Rattle.lg_circ.specs.declared.element.Element.{Element};
-ghost use Rattle.lg_circ.specs.Grammar.{SpellsText};
+ghost use Rattle.std.specs.Prelude.{◌≡◌, ◌+◌, ◌<◌, ◌≤◌, ◌↔◌, length, All, IfOk, OnOk, IsErrOf};
 ghost use Rattle.lg_circ.specs.Plain.{IsPlainProject, ReadsAs};
 ghost use Rattle.lg_circ.specs.Reading.{Gives, project_at};
 
@@ -21,16 +19,16 @@ pub const GREATEST_LENGTH: usize = 8_388_608;
 pub fn read_project(alloc: Global, bytes: &[u8]) -> Result<Project, CircFault>
     // What is read is what a plain project says.
     ensures found { IfOk result (λ p. IsPlainProject bytes.now p) }
-    ensures within { OnOk result (length bytes.now ≤ 8388608) }
+    ensures within { OnOk result (length bytes.now ≤ GREATEST_LENGTH) }
     ensures few { IfOk result (λ project. All (λ sheet. length sheet.comps + length sheet.wires ≤ length bytes.now) project.sheets) }
     // A plain project is read as what it says, unless memory runs out.
     // So a text says at most one project.
     ensures only { (p : Project) →
-        IsPlainProject bytes.now p → length bytes.now ≤ 8388608 → ReadsAs p result }
-    ensures too_long { IsErrOf result CircFault.TooLong ↔ (8388608 < length bytes.now) }
+        IsPlainProject bytes.now p → length bytes.now ≤ GREATEST_LENGTH → ReadsAs p result }
+    ensures too_long { IsErrOf result CircFault.TooLong ↔ (GREATEST_LENGTH < length bytes.now) }
     // NotBuilt says that no plain project has these bytes.
     ensures not_built { IsErrOf result CircFault.NotBuilt →
-        (length bytes.now ≤ 8388608) × ((p : Project) → IsPlainProject bytes.now p → ⊥) }
+        (length bytes.now ≤ GREATEST_LENGTH) × ((p : Project) → IsPlainProject bytes.now p → ⊥) }
 {
     if bytes.len() > GREATEST_LENGTH {
         return Err(CircFault::TooLong);
@@ -52,9 +50,3 @@ fn plain_project(alloc: Global, text: &str) -> Result<Project, CircFault>
         Err(CircFault::NotBuilt)
     }
 }
-
-/// A text has at most one tree.
-pub fn one_tree()
-    ensures { (bytes : List ℕ) (d e : Element) →
-        SpellsText d bytes → SpellsText e bytes → d ≡ e }
-{}

@@ -1,14 +1,12 @@
 //! Reading elements from their text, from left to right.
 
-ghost use Rattle.std.specs.Prelude.{◌≡◌, ℕ, List, suc, length, is_some};
-ghost use Rattle.std.specs.List.{list_any};
-ghost use Rattle.std.specs.Str.{bytes_eq};
-ghost use Rattle.lg_circ.specs.Grammar.{names_differ};
+ghost use Rattle.std.specs.Prelude.{◌≡◌, suc, length, is_some};
 ghost use Rattle.lg_circ.specs.Reading.{Gives, view_tag, after_mark, after_gap, name_at, attribute_at, attributes_at, tag_at, after_last_tag, content_at, empty_at, open_at, element_at, tree_at, are_few};
 
 use crate::class::{Class, begins_with, skip, split_after};
 use crate::element::Element;
 use crate::fault::CircFault;
+use crate::pairs::names_differ;
 use lg_text::Text;
 use sqlite_items::Items;
 use std::alloc::Global;
@@ -136,24 +134,6 @@ fn first_tag(alloc: Global, text: &str) -> Result<Tag<'_>, CircFault>
     } else {
         Err(CircFault::NotBuilt)
     }
-}
-
-fn names_differ(attributes: &[(Text, Text)]) -> bool
-    ensures { result ≡ names_differ attributes.now }
-{
-    for (at, (name, _)) in attributes.iter().enumerate() {
-        if stands_among(name.as_str(), &attributes[at + 1..]) {
-            return false;
-        }
-    }
-    true
-}
-
-/// Whether one of the attributes has this name.
-fn stands_among(name: &str, attributes: &[(Text, Text)]) -> bool
-    ensures { result ≡ list_any (λ (b : List ℕ × List ℕ). bytes_eq name.now b.0) attributes.now }
-{
-    attributes.iter().any(|(other, _)| name == other.as_str())
 }
 
 fn attributes(alloc: Global, text: &str) -> Result<(Items<(Text, Text)>, &str), CircFault>

@@ -1,5 +1,5 @@
 use Rattle.lg_circ.proofs.Elements.{same_tree}
-use Rattle.lg_circ.proofs.read.one_tree.Goals as goal
+use Rattle.lg_circ.proofs.law.one_tree.Goals as goal
 
 pub returns : goal.returns
 returns c = same_tree
