@@ -1,6 +1,9 @@
+pub mod OneNumbering
+pub mod OneNaming
 pub mod NumberingLemmas
 pub mod NameLemmas
 pub mod NextLemmas
 pub mod SpelledLemmas
+pub mod PinLemmas
 pub mod MarkLemmas
 pub mod OneGateLemmas

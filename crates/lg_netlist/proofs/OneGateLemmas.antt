@@ -9,7 +9,7 @@ use Rattle.lg_netlist.specs.declared.netlist.PinUse.{PinUse}
 use Rattle.lg_netlist.specs.declared.netlist.Netlist.{Netlist}
 use Rattle.lg_netlist.specs.Marks.{are_new, marked, is_on_marked}
 use Rattle.lg_netlist.specs.OneGate.{driven_by_parts, driven_by_pins, driven, all_differ, has_no_clock, has_single_drivers, gates_read_pins, outputs_are_driven, is_one_gate}
-use Rattle.lg_netlist.specs.Valid.{AreNets, IsFittingPart, IsFittingPin, IsValid}
+use Rattle.lg_netlist.specs.Valid.{AreNets, IsFittingPart, IsFittingPin}
 use Rattle.lg_netlist.proofs.MarkLemmas.{AreMarked, AreMarked-start, are_new-differ, marked-met, length-marked, all_differ-end, parts_read, pins_on, parts_drive_nets, pins_drive_nets}
 
 no_first : (a b c d : Bool) → a ≡ false → (a && b && c && d) ≡ false
@@ -35,30 +35,27 @@ but_last true true false d e f g = absurd (false≢true g)
 
 -- no mark, and the nets that pins drive
 pub record IsStart (n : Netlist) (marks : List Bool) (nets : List ℕ) : Type 0 where
-  pub valid : IsValid n
   pub unmarked : marks ≡ replicate n.nets false
   pub by_pins : nets ≡ driven_by_pins n.pins
 
-pub IsStart-of : (n : Netlist) (marks blank : List Bool) (nets items : List ℕ) (pins : List PinUse) → IsValid n → marks ≡ blank → blank ≡ replicate n.nets false → nets ≡ items
+pub IsStart-of : (n : Netlist) (marks blank : List Bool) (nets items : List ℕ) (pins : List PinUse) → marks ≡ blank → blank ≡ replicate n.nets false → nets ≡ items
     → items ≡ driven_by_pins pins → pins ≡ n.pins → IsStart n marks nets
-IsStart-of n marks blank nets items pins v e f g h i = record { valid = v; unmarked = e ∙ f; by_pins = g ∙ (h ∙ ap driven_by_pins i) }
+IsStart-of n marks blank nets items pins e f g h i = record { unmarked = e ∙ f; by_pins = g ∙ (h ∙ ap driven_by_pins i) }
 
 -- the nets that pins drive are marked, each once
 pub record ArePinsMarked (n : Netlist) (marks : List Bool) : Type 0 where
-  pub valid : IsValid n
   pub as_many : length marks ≡ n.nets
   pub differ : all_differ (driven_by_pins n.pins) ≡ true
   pub marked : AreMarked marks (driven_by_pins n.pins)
 
 -- all driven nets are marked, each once
 pub record AreDriversMarked (n : Netlist) (marks : List Bool) : Type 0 where
-  pub valid : IsValid n
   pub as_many : length marks ≡ n.nets
   pub single : has_single_drivers n ≡ true
   pub marked : AreMarked marks (driven n)
 
 pub within_start : (n : Netlist) (marks : List Bool) (nets : List ℕ) → IsStart n marks nets → AreNets (length marks) nets
-within_start n marks nets s = rw (s.unmarked, length-replicate n.nets false, s.by_pins) (pins_drive_nets n.nets n.pins s.valid.pins)
+within_start n marks nets s = rw (s.unmarked, length-replicate n.nets false, s.by_pins) (pins_drive_nets n.nets n.pins n.valid.pins_fit)
 
 unmarked : (n : Netlist) (marks : List Bool) (nets : List ℕ) → IsStart n marks nets → AreMarked marks []
 unmarked n marks nets s = subst (λ (m : List Bool). AreMarked m []) (sym s.unmarked) (AreMarked-start n.nets)
@@ -72,7 +69,6 @@ joined_pins n marks nets s e =
 
 pub ArePinsMarked-after : (n : Netlist) (marks after : List Bool) (nets : List ℕ) → IsStart n marks nets → are_new marks nets ≡ true → after ≡ marked marks nets → ArePinsMarked n after
 ArePinsMarked-after n marks after nets s e f = record {
-  valid = s.valid;
   as_many = ap length f ∙ (length-marked nets marks ∙ (ap length s.unmarked ∙ length-replicate n.nets false));
   differ = sym (pins_new n marks nets s) ∙ e;
   marked = subst (λ (m : List Bool). AreMarked m (driven_by_pins n.pins)) (sym f)
@@ -80,7 +76,7 @@ ArePinsMarked-after n marks after nets s e f = record {
 }
 
 pub fitting_parts : (n : Netlist) (marks : List Bool) → ArePinsMarked n marks → All (IsFittingPart (length marks)) n.parts
-fitting_parts n marks m = rw m.as_many m.valid.parts
+fitting_parts n marks m = rw m.as_many n.valid.parts_fit
 
 -- what was found of the inputs of all gates
 pub read_of : (n : Netlist) (marks ms : List Bool) (parts : List PartUse) (b : Bool) → ms ≡ marks → parts ≡ n.parts → b ≡ list_all (λ (p : PartUse). list_all (is_on_marked ms) p.inputs) parts
@@ -91,7 +87,7 @@ pub unread : (n : Netlist) (marks : List Bool) → ArePinsMarked n marks → lis
 unread n marks m e = no_third (has_no_clock n) (has_single_drivers n) (gates_read_pins n) (outputs_are_driven n) (sym (parts_read marks (driven_by_pins n.pins) n.parts m.marked) ∙ e)
 
 pub within_parts : (n : Netlist) (marks : List Bool) (nets : List ℕ) → ArePinsMarked n marks → nets ≡ driven_by_parts n.parts → AreNets (length marks) nets
-within_parts n marks nets m e = rw (m.as_many, e) (parts_drive_nets n.nets n.parts m.valid.parts)
+within_parts n marks nets m e = rw (m.as_many, e) (parts_drive_nets n.nets n.parts n.valid.parts_fit)
 
 parts_new : (n : Netlist) (marks : List Bool) (nets : List ℕ) → ArePinsMarked n marks → nets ≡ driven_by_parts n.parts → are_new marks nets ≡ has_single_drivers n
 parts_new n marks nets m e =
@@ -103,7 +99,6 @@ joined_parts n marks nets m e f = no_second (has_no_clock n) (has_single_drivers
 pub AreDriversMarked-after : (n : Netlist) (marks after : List Bool) (nets : List ℕ) → ArePinsMarked n marks → nets ≡ driven_by_parts n.parts → are_new marks nets ≡ true → after ≡ marked marks nets
     → AreDriversMarked n after
 AreDriversMarked-after n marks after nets m e f g = record {
-  valid = m.valid;
   as_many = ap length g ∙ (length-marked nets marks ∙ m.as_many);
   single = sym (parts_new n marks nets m e) ∙ f;
   marked = subst (λ (a : List Bool). AreMarked a (driven n)) (sym g)
@@ -111,7 +106,7 @@ AreDriversMarked-after n marks after nets m e f g = record {
 }
 
 pub fitting_pins : (n : Netlist) (marks : List Bool) → AreDriversMarked n marks → All (IsFittingPin (length marks)) n.pins
-fitting_pins n marks m = rw m.as_many m.valid.pins
+fitting_pins n marks m = rw m.as_many n.valid.pins_fit
 
 pub with_clock : (n : Netlist) → has_no_clock n ≡ false → is_one_gate n ≡ false
 with_clock n e = no_first (has_no_clock n) (has_single_drivers n) (gates_read_pins n) (outputs_are_driven n) e

@@ -2,65 +2,52 @@
 use Rattle.std.proofs.Common.{◌≡◌, ℕ, zero, suc, ◌+◌, ◌%◌, ◌^◌, ◌<◌, ◌≤◌, Bool, true, false, ◌&&◌, ◌||◌, if◌then◌else◌, List, [], ◌∷◌, ◌++◌, length, take, MatchBool, refl, sym, ap, subst, ◌∙◌, arith, append_assoc, inl, inr, ◌⊎◌, lit≤}
 use Rattle.std.specs.Prelude.{codes, nat_le, ◌==◌, IsTrue, All}
 use Rattle.std.specs.List.{list_all, flat_map, IsDistinct}
+use Rattle.std.specs.Char.{is_ascii_alphanumeric}
 use Rattle.std.specs.Fmt.{decimal}
+use Rattle.std.specs.Int.{is_in_range}
 use Rattle.std.specs.Str.{bytes_eq}
 use Rattle.std.specs.Cmp.Lexicographic.{nat_list_eq_equiv}
-use Rattle.std.proofs.lemmas.Bool.{cases_lt, le-leb, false≢true}
+use Rattle.std.proofs.lemmas.Bool.{cases_lt, le-leb, and_from, and_parts, or_left}
 use Rattle.std.proofs.lemmas.Fmt.{decimal_by_steps, length-decimal-le}
 use Rattle.std.proofs.lemmas.List.{length-append, length-take, append-nil}
 use Rattle.std.proofs.lemmas.List.Elements.{All-nil, All-cons}
 use Rattle.std.proofs.lemmas.List.Folds.{list_all-append}
 use Rattle.std.proofs.lemmas.Map.Keys.{IsDistinct-push}
-use Rattle.lg_netlist.specs.Names.{is_word, is_continuation, is_between, cleaned_byte, trimmed, or_pin, name_of_label, is_taken, numbered_name, IsFirstFree, AreNames}
+use Rattle.lg_text.specs.NameByte.{is_name_byte}
+use Rattle.lg_netlist.specs.Names.{is_continuation, cleaned_byte, trimmed, or_pin, name_of_label, is_taken, numbered_name, IsFirstFree, AreNames}
 use Rattle.lg_netlist.specs.Valid.{is_pin_name}
 use Rattle.lg_netlist.proofs.NameLemmas.{one_is_free}
 
-both : (a b : Bool) → a ≡ true → b ≡ true → (a && b) ≡ true
-both true b h k = k
-both false b h k = absurd (false≢true h)
+-- the name of a label is made of letters, digits and `_`
+cleaned_name_bytes : (c : ℕ) (w k : Bool) → is_name_byte c ≡ w → list_all is_name_byte (if w then c ∷ [] else (if k then [] else 95 ∷ [])) ≡ true
+cleaned_name_bytes c true k e = and_from (is_name_byte c) true e refl
+cleaned_name_bytes c false true e = refl
+cleaned_name_bytes c false false e = refl
 
-both_true : (a b : Bool) → (a && b) ≡ true → (a ≡ true) × (b ≡ true)
-both_true true b h = (refl, h)
-both_true false b h = absurd (false≢true h)
-
-first_holds : (a b : Bool) → a ≡ true → (a || b) ≡ true
-first_holds true b h = refl
-first_holds false b h = absurd (false≢true h)
-
-second_holds : (a b : Bool) → b ≡ true → (a || b) ≡ true
-second_holds true b h = refl
-second_holds false b h = h
-
--- the name of a label is made of words
-cleaned_words : (c : ℕ) (w k : Bool) → is_word c ≡ w → list_all is_word (if w then c ∷ [] else (if k then [] else 95 ∷ [])) ≡ true
-cleaned_words c true k e = both (is_word c) true e refl
-cleaned_words c false true e = refl
-cleaned_words c false false e = refl
-
-all_cleaned : (label : List ℕ) → list_all is_word (flat_map cleaned_byte label) ≡ true
+all_cleaned : (label : List ℕ) → list_all is_name_byte (flat_map cleaned_byte label) ≡ true
 all_cleaned [] = refl
 all_cleaned (c ∷ label) =
-    list_all-append is_word (cleaned_byte c) (flat_map cleaned_byte label)
-    ∙ both (list_all is_word (cleaned_byte c)) (list_all is_word (flat_map cleaned_byte label)) (cleaned_words c (is_word c) (is_continuation c) refl) (all_cleaned label)
+    list_all-append is_name_byte (cleaned_byte c) (flat_map cleaned_byte label)
+    ∙ and_from (list_all is_name_byte (cleaned_byte c)) (list_all is_name_byte (flat_map cleaned_byte label)) (cleaned_name_bytes c (is_name_byte c) (is_continuation c) refl) (all_cleaned label)
 
-all_taken : (n : ℕ) (text : List ℕ) → list_all is_word text ≡ true → list_all is_word (take n text) ≡ true
+all_taken : (n : ℕ) (text : List ℕ) → list_all is_name_byte text ≡ true → list_all is_name_byte (take n text) ≡ true
 all_taken zero text h = refl
 all_taken (suc n) [] h = refl
 all_taken (suc n) (c ∷ text) h =
-    let parts = both_true (is_word c) (list_all is_word text) h in
-    both (is_word c) (list_all is_word (take n text)) parts.0 (all_taken n text parts.1)
+    let parts = and_parts (is_name_byte c) (list_all is_name_byte text) h in
+    and_from (is_name_byte c) (list_all is_name_byte (take n text)) parts.0 (all_taken n text parts.1)
 
-words_or_pin : (text : List ℕ) → list_all is_word text ≡ true → list_all is_word (or_pin text) ≡ true
-words_or_pin [] h = refl
-words_or_pin (c ∷ text) h = h
+name_bytes_or_pin : (text : List ℕ) → list_all is_name_byte text ≡ true → list_all is_name_byte (or_pin text) ≡ true
+name_bytes_or_pin [] h = refl
+name_bytes_or_pin (c ∷ text) h = h
 
 length-or_pin : (text : List ℕ) → length text ≤ 256 → (1 ≤ length (or_pin text)) × (length (or_pin text) ≤ 256)
 length-or_pin [] h = (lit≤ tt, lit≤ tt)
 length-or_pin (c ∷ text) h = (omega arith, h)
 
--- words, as many as a name may have before it is numbered
+-- bytes of names, as many as a name may have before it is numbered
 pub record IsShortName (name : List ℕ) : Type 0 where
-  pub words : list_all is_word name ≡ true
+  pub name_bytes : list_all is_name_byte name ≡ true
   pub some : 1 ≤ length name
   pub short : length name ≤ 256
 
@@ -68,37 +55,38 @@ pub IsShortName-of_label : (label : List ℕ) → IsShortName (name_of_label lab
 IsShortName-of_label label =
     let cleaned = flat_map cleaned_byte (trimmed label) in
     let sized = length-or_pin (take 256 cleaned) (omega (arith, length-take 256 cleaned)) in record {
-      words = words_or_pin (take 256 cleaned) (all_taken 256 cleaned (all_cleaned (trimmed label)));
+      name_bytes = name_bytes_or_pin (take 256 cleaned) (all_taken 256 cleaned (all_cleaned (trimmed label)));
       some = sized.0;
       short = sized.1;
     }
 
-pub is_pin_name-from_parts : (name : List ℕ) → list_all is_word name ≡ true → 1 ≤ length name → length name ≤ 290 → is_pin_name name ≡ true
+pub is_pin_name-from_parts : (name : List ℕ) → list_all is_name_byte name ≡ true → 1 ≤ length name → length name ≤ 290 → is_pin_name name ≡ true
 is_pin_name-from_parts name words some short =
-    both (nat_le 1 (length name) && nat_le (length name) 290) (list_all is_word name)
-    (both (nat_le 1 (length name)) (nat_le (length name) 290) (le-leb 1 (length name) some) (le-leb (length name) 290 short)) words
+    and_from (nat_le 1 (length name) && nat_le (length name) 290) (list_all is_name_byte name)
+    (and_from (nat_le 1 (length name)) (nat_le (length name) 290) (le-leb 1 (length name) some) (le-leb (length name) 290 short)) words
 
-is_word-digit : (n : ℕ) → n < 10 → is_word (48 + n) ≡ true
-is_word-digit n h =
-    first_holds (is_between 65 90 (48 + n) || is_between 97 122 (48 + n) || is_between 48 57 (48 + n)) ((48 + n) == 95)
-    (second_holds (is_between 65 90 (48 + n) || is_between 97 122 (48 + n)) (is_between 48 57 (48 + n))
-    (both (nat_le 48 (48 + n)) (nat_le (48 + n) 57) (le-leb 48 (48 + n) (omega arith)) (le-leb (48 + n) 57 (omega arith))))
+is_name_byte-digit : (n : ℕ) → n < 10 → is_name_byte (48 + n) ≡ true
+is_name_byte-digit n h =
+    or_left (is_ascii_alphanumeric (48 + n)) ((48 + n) == 95)
+    (or_left (is_in_range 48 57 (48 + n) || is_in_range 65 90 (48 + n)) (is_in_range 97 122 (48 + n))
+    (or_left (is_in_range 48 57 (48 + n)) (is_in_range 65 90 (48 + n))
+    (and_from (nat_le 48 (48 + n)) (nat_le (48 + n) 57) (le-leb 48 (48 + n) (omega arith)) (le-leb (48 + n) 57 (omega arith)))))
 
-words-decimal : (n : ℕ) → n < 2 ^ 64 → list_all is_word (decimal n) ≡ true
-words-decimal =
-    decimal_by_steps (λ n ds. list_all is_word ds ≡ true) (λ n small. both (is_word (48 + n)) true (is_word-digit n small) refl)
+name_bytes-decimal : (n : ℕ) → n < 2 ^ 64 → list_all is_name_byte (decimal n) ≡ true
+name_bytes-decimal =
+    decimal_by_steps (λ n ds. list_all is_name_byte ds ≡ true) (λ n small. and_from (is_name_byte (48 + n)) true (is_name_byte-digit n small) refl)
     (λ n ds ten h.
-    list_all-append is_word ds ((48 + n % 10) ∷ [])
-    ∙ both (list_all is_word ds) (list_all is_word ((48 + n % 10) ∷ [])) h (both (is_word (48 + n % 10)) true (is_word-digit (n % 10) (omega arith)) refl))
+    list_all-append is_name_byte ds ((48 + n % 10) ∷ [])
+    ∙ and_from (list_all is_name_byte ds) (list_all is_name_byte ((48 + n % 10) ∷ [])) h (and_from (is_name_byte (48 + n % 10)) true (is_name_byte-digit (n % 10) (omega arith)) refl))
 
 -- a name with its number
 is_pin_name-numbered : (name : List ℕ) (n : ℕ) → IsShortName name → n < 2 ^ 64 → is_pin_name (numbered_name name n) ≡ true
 is_pin_name-numbered name n s fits =
     let front = name ++ codes "_" in
     let digits : length (decimal n) ≤ 20 = length-decimal-le 20 n (omega arith) (omega arith) fits in
-    let words : list_all is_word (front ++ decimal n) ≡ true =
-    list_all-append is_word front (decimal n)
-    ∙ both (list_all is_word front) (list_all is_word (decimal n)) (list_all-append is_word name (codes "_") ∙ both (list_all is_word name) true s.words refl) (words-decimal n fits) in
+    let words : list_all is_name_byte (front ++ decimal n) ≡ true =
+    list_all-append is_name_byte front (decimal n)
+    ∙ and_from (list_all is_name_byte front) (list_all is_name_byte (decimal n)) (list_all-append is_name_byte name (codes "_") ∙ and_from (list_all is_name_byte name) true s.name_bytes refl) (name_bytes-decimal n fits) in
     let sized : length front ≡ length name + 1 = length-append name (codes "_") in
     is_pin_name-from_parts (front ++ decimal n) words (omega (arith, length-append front (decimal n), s.some)) (omega (arith, length-append front (decimal n), s.short))
 
@@ -114,9 +102,9 @@ is_pin_name-free taken label found small true f =
     ap is_pin_name f.numbered ∙ is_pin_name-numbered (name_of_label label) f.number (IsShortName-of_label label) (omega arith)
 is_pin_name-free taken label found small false e =
     let s = IsShortName-of_label label in
-    ap is_pin_name e ∙ is_pin_name-from_parts (name_of_label label) s.words s.some (omega (arith, s.short))
+    ap is_pin_name e ∙ is_pin_name-from_parts (name_of_label label) s.name_bytes s.some (omega (arith, s.short))
 
--- names of pins are words, and short
+-- names of pins are made of letters, digits and `_`, and short
 pub all_spelled : (taken labels names : List (List ℕ)) → length taken + length labels < 2 ^ 63 → AreNames taken labels names → All (λ name. IsTrue (is_pin_name name)) names
 all_spelled taken [] [] small h = All-nil (λ (name : List ℕ). IsTrue (is_pin_name name))
 all_spelled taken [] (name ∷ names) small h = absurd h

@@ -1,26 +1,18 @@
 -- How pins are named: after their labels, each name once in a circuit.
-use Rattle.std.specs.Prelude.{◌≡◌, ℕ, ◌<◌, ◌≤◌, ◌==◌, nat_le, Bool, true, false, ◌&&◌, ◌||◌, List, [], ◌∷◌, ◌++◌, take, reverse, MatchBool, if◌then◌else◌, codes, refl}
-use Rattle.std.proofs.Common.{sym, subst, ◌∙◌, ap, ◌⊎◌, inl, inr}
-use Rattle.std.proofs.lemmas.Bool.{cases_order, false≢true}
+use Rattle.std.specs.Prelude.{◌≡◌, ℕ, ◌<◌, ◌≤◌, ◌==◌, Bool, true, false, List, [], ◌∷◌, ◌++◌, take, reverse, MatchBool, if◌then◌else◌, codes}
 use Rattle.std.specs.List.{list_any, flat_map}
 use Rattle.std.specs.Fmt.{decimal}
+use Rattle.std.specs.Int.{is_in_range}
 use Rattle.std.specs.Str.{bytes_eq}
-
--- from low to high, both included
-abbrev pub is_between : ℕ → ℕ → ℕ → Bool
-is_between low high c = nat_le low c && nat_le c high
-
--- an ASCII letter, a digit or `_`
-abbrev pub is_word : ℕ → Bool
-is_word c = is_between 65 90 c || is_between 97 122 c || is_between 48 57 c || c == 95
+use Rattle.lg_text.specs.NameByte.{is_name_byte}
 
 -- a byte of UTF-8 that goes on with a character and begins none
 abbrev pub is_continuation : ℕ → Bool
-is_continuation c = is_between 128 191 c
+is_continuation c = is_in_range 128 191 c
 
 -- what stands in a name for a byte of the label: so each other character becomes one `_`
 abbrev pub cleaned_byte : ℕ → List ℕ
-cleaned_byte c = if is_word c then c ∷ [] else (if is_continuation c then [] else 95 ∷ [])
+cleaned_byte c = if is_name_byte c then c ∷ [] else (if is_continuation c then [] else 95 ∷ [])
 
 -- without the spaces at the front
 abbrev pub without_spaces : List ℕ → List ℕ
@@ -69,30 +61,3 @@ AreNames taken [] [] = Unit {0}
 AreNames taken (label ∷ labels) (name ∷ names) = IsFreeName taken (name_of_label label) name × AreNames (taken ++ name ∷ []) labels names
 AreNames taken [] (name ∷ names) = ⊥
 AreNames taken (label ∷ labels) [] = ⊥
-
--- of two first free names neither has the lesser number
-none_lower : (taken : List (List ℕ)) (name found found' : List ℕ) (f : IsFirstFree taken name found) (f' : IsFirstFree taken name found') → f.number < f'.number → ⊥
-none_lower taken name found found' f f' less = false≢true (sym f.free ∙ (ap (is_taken taken) f.numbered ∙ f'.first f.number f.from_two less))
-
-one_first_free : (taken : List (List ℕ)) (name found found' : List ℕ) (f : IsFirstFree taken name found) (f' : IsFirstFree taken name found')
-    → (f.number ≡ f'.number) ⊎ ((f.number < f'.number) ⊎ (f'.number < f.number)) → found ≡ found'
-one_first_free taken name found found' f f' (inl e) = f.numbered ∙ (ap (numbered_name name) e ∙ sym f'.numbered)
-one_first_free taken name found found' f f' (inr (inl less)) = absurd (none_lower taken name found found' f f' less)
-one_first_free taken name found found' f f' (inr (inr more)) = absurd (none_lower taken name found' found f' f more)
-
-one_free_name : (taken : List (List ℕ)) (name found found' : List ℕ) (b : Bool) → MatchBool b (IsFirstFree taken name found) (found ≡ name)
-    → MatchBool b (IsFirstFree taken name found') (found' ≡ name) → found ≡ found'
-one_free_name taken name found found' true f f' = one_first_free taken name found found' f f' (cases_order f.number f'.number)
-one_free_name taken name found found' false e e' = e ∙ sym e'
-
--- the labels have one naming
-pub one_naming : (taken labels names names' : List (List ℕ)) → AreNames taken labels names → AreNames taken labels names' → names ≡ names'
-one_naming taken [] [] [] h h' = refl
-one_naming taken [] (name ∷ names) names' h h' = absurd h
-one_naming taken [] [] (name' ∷ names') h h' = absurd h'
-one_naming taken (label ∷ labels) [] names' h h' = absurd h
-one_naming taken (label ∷ labels) (name ∷ names) [] h h' = absurd h'
-one_naming taken (label ∷ labels) (name ∷ names) (name' ∷ names') h h' =
-    let first : name ≡ name' = one_free_name taken (name_of_label label) name name' (is_taken taken (name_of_label label)) h.0 h'.0 in
-    let others : names ≡ names' = one_naming (taken ++ name ∷ []) labels names names' h.1 (subst (λ (n : List ℕ). AreNames (taken ++ n ∷ []) labels names') (sym first) h'.1) in
-    ap (λ (ns : List (List ℕ)). name ∷ ns) others ∙ ap (λ (n : List ℕ). n ∷ names') first

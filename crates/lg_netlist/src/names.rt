@@ -4,7 +4,8 @@ ghost use Rattle.std.specs.Prelude.{◌≡◌, [], ◌∷◌, ◌++◌, reverse,
 ghost use Rattle.std.specs.BTreeMap.{get_by_text};
 ghost use Rattle.std.specs.List.{flat_map, IsDistinct};
 ghost use Rattle.std.specs.Str.{bytes_eq, IsAscii};
-ghost use Rattle.lg_netlist.specs.Names.{is_word, is_continuation, without_spaces, trimmed, cleaned_byte, name_of_label, is_taken, numbered_name, IsFirstFree, IsFreeName, AreNames};
+ghost use Rattle.lg_text.specs.NameByte.{is_name_byte};
+ghost use Rattle.lg_netlist.specs.Names.{is_continuation, without_spaces, trimmed, cleaned_byte, name_of_label, is_taken, numbered_name, IsFirstFree, IsFreeName, AreNames};
 ghost use Rattle.lg_netlist.specs.NextNumbers.{IsTriedTo, KnowsTaken, IsFirstFreeNumber};
 ghost use Rattle.lg_netlist.specs.Valid.{is_pin_name};
 
@@ -82,7 +83,7 @@ fn cleaned(alloc: Global, label: &[u8]) -> Result<Vec<u8>, AllocError>
 {
     let mut name = Vec::new(alloc);
     for byte in label {
-        if is_word(*byte) {
+        if is_name_byte(*byte) {
             name.push(*byte)?;
         } else if !is_continuation(*byte) {
             name.push(b'_')?;
@@ -91,8 +92,8 @@ fn cleaned(alloc: Global, label: &[u8]) -> Result<Vec<u8>, AllocError>
     Ok(name)
 }
 
-fn is_word(byte: u8) -> bool
-    ensures { result ≡ is_word byte }
+fn is_name_byte(byte: u8) -> bool
+    ensures { result ≡ is_name_byte byte }
 {
     byte.is_ascii_alphanumeric() || byte == b'_'
 }

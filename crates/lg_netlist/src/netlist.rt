@@ -1,5 +1,8 @@
 //! Flat netlists: parts, pins and the nets that join them.
 
+ghost use Rattle.std.proofs.Props.{props};
+ghost use Rattle.lg_netlist.specs.Valid.{IsValid};
+
 use lg_text::Text;
 use sqlite_items::Items;
 
@@ -32,7 +35,8 @@ pub struct PinUse {
     pub bits: Items<u32>,
 }
 
-/// The parts, pins and clocks of a circuit. Nets are numbered from 0.
+/// The parts, pins and clocks of a circuit. Nets are numbered from 0, and all that is named here is among them; ports fit
+/// their cells, pins have names that a module can spell and that differ, and the clock pin is an input pin.
 #[derive(Debug, Drop)]
 pub struct Netlist {
     /// The circuit's name, as it stands.
@@ -45,4 +49,5 @@ pub struct Netlist {
     pub nets: u32,
     /// The place in `pins` of the input pin that serves as the clock.
     pub clock_pin: Option<u32>,
+    pub ghost valid: { IsValid parts pins clocks nets clock_pin } by { Prim.hlevel props },
 }

@@ -5,7 +5,7 @@ ghost use Rattle.std.specs.Bool.{OnTrue};
 ghost use Rattle.std.specs.List.{list_all, flat_map};
 ghost use Rattle.lg_netlist.specs.Marks.{are_new, marked, is_on_marked};
 ghost use Rattle.lg_netlist.specs.OneGate.{driven_by_parts, driven_by_pins, has_no_clock, is_one_gate};
-ghost use Rattle.lg_netlist.specs.Valid.{AreNets, IsPort, IsFittingPart, IsFittingPin, IsValid};
+ghost use Rattle.lg_netlist.specs.Valid.{AreNets, IsPort, IsFittingPart, IsFittingPin};
 
 use crate::netlist::{Netlist, PartUse, PinUse};
 use sqlite_items::Items;
@@ -15,7 +15,6 @@ impl Netlist {
     /// Whether no chain has two gates: no clock, at most one driver on each net, each input of a gate joined to an input
     /// pin, and each output pin joined to an input pin or to a gate's output. It takes time in the netlist's size.
     pub fn is_one_gate(&self, alloc: Global) -> Result<bool, AllocError>
-        requires { IsValid self.now }
         ensures { IfOk result (λ answer. answer ≡ is_one_gate self.now) }
     {
         if !self.has_no_clock() {

@@ -5,7 +5,8 @@ use Rattle.std.proofs.lemmas.Bool.{cases_eq, cases_lt, false≢true}
 use Rattle.std.proofs.lemmas.List.{length-set, length-replicate, get_or-replicate}
 use Rattle.std.proofs.lemmas.Option.{same_Some}
 use Rattle.lg_circ.specs.declared.project.Wire.{Wire}
-use Rattle.lg_nets.specs.Shares.{Marks, PortShares, WireShares, AreShared, is_straight}
+use Rattle.lg_circ.specs.Straight.{is_straight}
+use Rattle.lg_nets.specs.Shares.{Marks, PortShares, WireShares, AreShared}
 
 -- what is marked may be said otherwise
 pub Marks-as : (xs ys : List Bool) (P Q : ℕ → Type 0) → ((i : ℕ) → P i → Q i) → ((i : ℕ) → Q i → P i) → Marks xs ys P → Marks xs ys Q

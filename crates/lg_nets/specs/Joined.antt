@@ -1,9 +1,10 @@
 -- Joined places: what the wires of a sheet connect.
 -- Source: the Logisim-evolution user guide, Wires: an end joins, and wires that only cross do not.
-use Rattle.std.specs.Prelude.{◌≡◌, ℕ, List, [], ◌∷◌, Contains, length, slice_get, slice_index, Some, ◌↔◌, ◌<◌, ◌⊎◌, ◌≢◌, ℤ, ◌≤ℤ◌, Bool, false, IsTrue, slice_index_or}
+use Rattle.std.specs.Prelude.{◌≡◌, ℕ, List, [], ◌∷◌, Contains, length, slice_get, slice_index, Some, ◌↔◌, ◌<◌, ◌⊎◌, ◌≢◌, Bool, false, IsTrue, slice_index_or}
 use Rattle.std.specs.List.{flat_map}
 use Rattle.lg_circ.specs.declared.project.Point.{Point}
 use Rattle.lg_circ.specs.declared.project.Wire.{Wire}
+use Rattle.lg_nets.specs.Segment.{segment_of, Covers}
 
 -- a bit at a point of one instance: the instance by the uses that lead to it, outermost first
 pub record Place : Type 0 where
@@ -11,15 +12,9 @@ pub record Place : Type 0 where
   pub point : Point
   pub bit : ℕ
 
--- from one end to the other, whichever is the lesser
-abbrev pub IsBetween : ℤ → ℤ → ℤ → Type 0
-IsBetween a b z = ((a ≤ℤ z) × (z ≤ℤ b)) ⊎ ((b ≤ℤ z) × (z ≤ℤ a))
-
 -- the point lies on a level or an upright wire, its ends included
 abbrev pub LiesOn : Wire → Point → Type 0
-LiesOn w p =
-    ((w.from.y ≡ w.to.y) × (p.y ≡ w.from.y) × IsBetween w.from.x w.to.x p.x)
-    ⊎ ((w.from.x ≡ w.to.x) × (p.x ≡ w.from.x) × IsBetween w.from.y w.to.y p.y)
+LiesOn w p = Covers (segment_of w) p
 
 -- a node of a sheet: an end of a wire, or the place of a port
 abbrev pub IsNode : List Wire → List Point → Point → Type 0

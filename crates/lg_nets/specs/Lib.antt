@@ -1,3 +1,4 @@
+pub mod Segment
 pub mod Joined
 pub mod Rays
 pub mod Links

@@ -2,44 +2,44 @@
 use Rattle.std.specs.Prelude.{◌≡◌, ℕ, ◌+◌, Bool, ◌&&◌, ◌⊎◌, ℤ, ◌≤ℤ◌, List, [], ◌∷◌, Contains, slice_get, Some, if◌then◌else◌, int_lt, int_le}
 use Rattle.std.specs.Ordering.{int_eq}
 use Rattle.lg_circ.specs.declared.project.Point.{Point}
-use Rattle.lg_circ.specs.declared.project.Wire.{Wire}
+use Rattle.lg_nets.specs.declared.rays.Segment.{Segment}
 use Rattle.lg_nets.specs.declared.components.Link.{Link}
 use Rattle.lg_nets.specs.declared.rows.Node.{Node}
 use Rattle.lg_nets.specs.Links.{Chained}
 
 -- the point lies on the wire, which is level and leads to the right
-pub record LiesAlong (w : Wire) (p : Point) : Type 0 where
+pub record LiesAlong (w : Segment) (p : Point) : Type 0 where
   pub level : w.from.y ≡ w.to.y
   pub row : p.y ≡ w.from.y
   pub after : w.from.x ≤ℤ p.x
   pub before : p.x ≤ℤ w.to.x
 
 -- the points are one, or one level wire has both
-abbrev pub Touch : List Wire → Point → Point → Type 0
-Touch rays p q = (p ≡ q) ⊎ ((w : Wire) × Contains rays w × LiesAlong w p × LiesAlong w q)
+abbrev pub Touch : List Segment → Point → Point → Type 0
+Touch rays p q = (p ≡ q) ⊎ ((w : Segment) × Contains rays w × LiesAlong w p × LiesAlong w q)
 
 -- the first ends of two rays touch
-pub record TouchAt (rays : List Wire) (i j : ℕ) : Type 0 where
-  pub one : Wire
-  pub other : Wire
+pub record TouchAt (rays : List Segment) (i j : ℕ) : Type 0 where
+  pub one : Segment
+  pub other : Segment
   pub first : slice_get rays i ≡ Some one
   pub second : slice_get rays j ≡ Some other
   pub touch : Touch rays one.from other.from
 
 -- the first ends of two rays touch where a link has them, and links chain all that touch
-pub record AreRowLinks (rays : List Wire) (links : List Link) : Type 0 where
+pub record AreRowLinks (rays : List Segment) (links : List Link) : Type 0 where
   pub sound : (link : Link) → Contains links link → TouchAt rays link.from link.to
   pub complete : (i j : ℕ) → TouchAt rays i j → Chained links i j
 
 -- how far a ray leads to the right
-abbrev pub reach_of : Wire → ℤ
+abbrev pub reach_of : Segment → ℤ
 reach_of w = if int_eq w.from.y w.to.y && int_lt w.from.x w.to.x then w.to.x else w.from.x
 
-abbrev pub node_of : ℕ → Wire → Node
+abbrev pub node_of : ℕ → Segment → Node
 node_of place w = record { across = w.from.y; along = w.from.x; reach = reach_of w; place = place }
 
 -- the nodes of rays from this place on
-abbrev pub nodes_from : ℕ → List Wire → List Node
+abbrev pub nodes_from : ℕ → List Segment → List Node
 nodes_from place [] = []
 nodes_from place (w ∷ ws) = node_of place w ∷ nodes_from (place + 1) ws
 

@@ -1,11 +1,7 @@
 -- Which labels are shared: by a port that is not the label itself, or by a wire that lies along something.
-use Rattle.std.specs.Prelude.{◌≡◌, ℕ, ◌<◌, ◌≢◌, ◌⊎◌, ◌↔◌, Bool, false, ◌||◌, IsTrue, List, length, slice_get, slice_index, slice_index_or, Some, drop}
-use Rattle.std.specs.Ordering.{int_eq}
+use Rattle.std.specs.Prelude.{◌≡◌, ℕ, ◌<◌, ◌≢◌, ◌⊎◌, ◌↔◌, Bool, false, IsTrue, List, length, slice_get, slice_index, slice_index_or, Some, drop}
 use Rattle.lg_circ.specs.declared.project.Wire.{Wire}
-
--- the wire is level or upright
-abbrev pub is_straight : Wire → Bool
-is_straight w = int_eq w.from.x w.to.x || int_eq w.from.y w.to.y
+use Rattle.lg_circ.specs.Straight.{is_straight}
 
 -- one of the first ports has the label, and is not the label itself
 abbrev pub PortShares : List ℕ → ℕ → ℕ → Type 0

@@ -2,10 +2,10 @@
 
 ghost use Rattle.std.specs.Prelude.{◌≡◌, ◌<◌, ◌≤◌, ◌^◌, ◌+◌, ◌*◌, ℕ, true, length, IfOk, slice_index, slice_set};
 ghost use Rattle.lg_nets.specs.Joined.{AreLabels, AreAttached};
-ghost use Rattle.lg_nets.specs.Shares.{is_straight, AreShared, PortShares, WireShares, Marks};
+ghost use Rattle.lg_nets.specs.Shares.{AreShared, PortShares, WireShares, Marks};
 
 use crate::components::components;
-use crate::rays::{rays, turned_over};
+use crate::rays::{rays, transposed};
 use crate::rows::row_links;
 use lg_circ::{Point, Wire};
 use std::alloc::{AllocError, Global};
@@ -28,7 +28,7 @@ pub fn sheet_nets(alloc: Global, wires: &[Wire], ports: &[Point]) -> Result<Shee
 {
     let rays = rays(alloc, wires, ports)?;
     let mut links = row_links(alloc, &rays)?;
-    let turned = turned_over(alloc, &rays)?;
+    let turned = transposed(alloc, &rays)?;
     let columns = row_links(alloc, &turned)?;
     links.extend_from_slice(&columns)?;
     let mut labels = components(alloc, rays.len(), &links)?;
@@ -74,7 +74,7 @@ fn share_wires(shared: &mut [bool], wires: &[Wire], labels: &[u32])
     ensures { Marks shared.old shared.new (WireShares wires.now labels.now (length wires.now)) }
 {
     for (place, wire) in wires.iter().enumerate() {
-        if is_straight(*wire) {
+        if wire.is_straight() {
             mark(shared, labels[place]);
         }
     }
@@ -87,10 +87,4 @@ fn mark(shared: &mut [bool], label: u32)
     if (label as usize) < shared.len() {
         shared[label as usize] = true;
     }
-}
-
-fn is_straight(wire: Wire) -> bool
-    ensures { result ≡ is_straight wire }
-{
-    wire.from.x == wire.to.x || wire.from.y == wire.to.y
 }

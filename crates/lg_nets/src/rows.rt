@@ -4,7 +4,7 @@ ghost use Rattle.std.specs.Prelude.{◌≡◌, IfOk};
 ghost use Rattle.lg_nets.specs.Rows.{node_of, reach_of, nodes_from, links_of, goes_on, carried, AreRowLinks};
 
 use crate::components::Link;
-use lg_circ::Wire;
+use crate::rays::Segment;
 use std::alloc::{AllocError, Global};
 
 /// A node in its row.
@@ -21,7 +21,7 @@ pub struct Node {
 }
 
 /// Links that chain two rays' first ends exactly where one level wire has both.
-pub fn row_links(alloc: Global, rays: &[Wire]) -> Result<Vec<Link>, AllocError>
+pub fn row_links(alloc: Global, rays: &[Segment]) -> Result<Vec<Link>, AllocError>
     ensures { IfOk result (λ links. AreRowLinks rays.now links.items) }
 {
     let mut nodes = nodes_of(alloc, rays)?;
@@ -29,7 +29,7 @@ pub fn row_links(alloc: Global, rays: &[Wire]) -> Result<Vec<Link>, AllocError>
     links_of(alloc, &nodes)
 }
 
-fn nodes_of(alloc: Global, rays: &[Wire]) -> Result<Vec<Node>, AllocError>
+fn nodes_of(alloc: Global, rays: &[Segment]) -> Result<Vec<Node>, AllocError>
     ensures { IfOk result (λ nodes. nodes.items ≡ nodes_from 0 rays.now) }
 {
     let mut nodes = Vec::with_capacity(alloc, rays.len())?;
@@ -39,7 +39,7 @@ fn nodes_of(alloc: Global, rays: &[Wire]) -> Result<Vec<Node>, AllocError>
     Ok(nodes)
 }
 
-fn node_of(place: usize, ray: Wire) -> Node
+fn node_of(place: usize, ray: Segment) -> Node
     ensures { result ≡ node_of place ray }
 {
     Node {
@@ -50,7 +50,7 @@ fn node_of(place: usize, ray: Wire) -> Node
     }
 }
 
-fn reach_of(ray: Wire) -> i32
+fn reach_of(ray: Segment) -> i32
     ensures { result ≡ reach_of ray }
 {
     if ray.from.y == ray.to.y && ray.from.x < ray.to.x {

@@ -1,6 +1,7 @@
 //! Small sheets by hand, and sheets on which a plain program stands beside the definition.
 
-ghost use Rattle.std.specs.Prelude.{◌≡◌, ◌<◌, ◌+◌, ◌*◌, ◌^◌, length};
+ghost use Rattle.std.specs.Prelude.{◌≡◌, ◌<◌, ◌+◌, ◌*◌, ◌^◌, length, IsTrue};
+ghost use Rattle.lg_circ.specs.Bounds.{is_on_sheet};
 
 use super::*;
 use lg_circ::{Point, Wire};
@@ -11,10 +12,13 @@ const fn point(x: i32, y: i32) -> Point {
     Point { x, y }
 }
 
-const fn wire(x: i32, y: i32, to_x: i32, to_y: i32) -> Wire {
+const fn wire(x: i32, y: i32, to_x: i32, to_y: i32) -> Wire
+    requires from { IsTrue (is_on_sheet (record { x = x; y = y })) }
+    requires to { IsTrue (is_on_sheet (record { x = to_x; y = to_y })) }
+{
     Wire {
-        from: point(x, y),
-        to: point(to_x, to_y),
+        from: Point { x, y },
+        to: Point { x: to_x, y: to_y },
     }
 }
 
@@ -177,16 +181,19 @@ impl Drawn {
         let from = self.point();
         let to = self.point();
         match self.number() {
-            0 => Wire { from, to },
-            1 => Wire {
-                from,
-                to: Point { x: to.x, y: from.y },
-            },
-            _ => Wire {
-                from,
-                to: Point { x: from.x, y: to.y },
-            },
+            0 => between(from, to),
+            1 => between(from, Point { x: to.x, y: from.y }),
+            _ => between(from, Point { x: from.x, y: to.y }),
         }
+    }
+}
+
+// The wire between two points of the sheet.
+fn between(from: Point, to: Point) -> Wire {
+    if from.is_on_sheet() && to.is_on_sheet() {
+        Wire { from, to }
+    } else {
+        wire(0, 0, 0, 0)
     }
 }
 

@@ -3,7 +3,7 @@
 ghost use Rattle.std.specs.Prelude.{◌≡◌, ◌<◌, ◌^◌, length, map, All, IfOk, IsTrue};
 ghost use Rattle.std.specs.List.{IsDistinct};
 ghost use Rattle.std.specs.Str.{bytes_eq};
-ghost use Rattle.lg_netlist.specs.Valid.{is_pin_name, IsPort, IsFittingPart, IsFittingPin, IsValid};
+ghost use Rattle.lg_netlist.specs.Valid.{is_pin_name, IsPort, IsFittingPart, IsFittingPin};
 
 use super::super::*;
 use lg_text::Text;
@@ -25,9 +25,7 @@ pub fn netlist(
     alloc: Global,
     pins: Pins,
     gates: Gates,
-) -> Result<Netlist, AllocError>
-    ensures { IfOk result (λ n. IsValid n) }
-{
+) -> Result<Netlist, AllocError> {
     Ok(Netlist {
         circuit: Text::new(alloc),
         parts: not_gates(rt, alloc, gates)?,

@@ -2,8 +2,8 @@
 use Rattle.std.proofs.Common.{◌≡◌, ◌∙◌, ap, Bor, List, filter, rules, not}
 use Rattle.std.proofs.lemmas.List.Elements.{filter_from_retain}
 use Rattle.lg_netlist.specs.declared.netlist.PinUse.{PinUse}
-use Rattle.lg_export.proofs.LayoutLemmas.{pointed, pointed-filter}
-use Rattle.lg_export.proofs.pins.output_pins.Goals as goal
+use Rattle.lg_netlist.proofs.PinLemmas.{pointed, pointed-filter}
+use Rattle.lg_netlist.proofs.netlist.Netlist.output_pins.Goals as goal
 
 pub returns : goal.returns
 returns c =

@@ -1,0 +1,19 @@
+//! Laws of the definitions.
+
+ghost use Rattle.std.specs.Prelude.{◌≡◌, ℕ, List};
+ghost use Rattle.lg_netlist.specs.Names.{AreNames};
+ghost use Rattle.lg_netlist.specs.Numbering.{IsNumbering};
+
+/// Labels have one naming.
+#[tactic(auto, using(crate::proofs::OneNaming::one_naming))]
+pub fn one_naming()
+    ensures { (taken labels names other : List (List ℕ)) →
+        AreNames taken labels names → AreNames taken labels other → names ≡ other }
+{}
+
+/// Labels have one numbering.
+pub fn one_numbering()
+    ensures { (labels numbers other : List ℕ) (count count_other : ℕ) →
+        IsNumbering ◌≡◌ labels numbers count → IsNumbering ◌≡◌ labels other count_other →
+        (numbers ≡ other) × (count ≡ count_other) }
+{}
