@@ -8,12 +8,10 @@ use Rattle.std.specs.declared.iter.Zip.{Zip}
 use Rattle.std.specs.declared.slice.Iter.{Iter}
 use Rattle.std.proofs.iter.Yields.{fronts}
 use Rattle.std.proofs.lemmas.Iterator.{zips}
+use Rattle.std.proofs.lemmas.Option.{none-some}
 use Rattle.std.proofs.lemmas.Slice.Zip.{either_empty_from_Zip}
 use Rattle.std.proofs.lemmas.List.Elements.{All-nil, All-cons, All-head, All-tail}
 use Rattle.lg_flatten.specs.Flat.{flagged, by_port}
-
-none_is_not : {X : Type 0} (x : X) → None ≡ Some x → ⊥
-none_is_not x e = cc
 
 none_flagged : {A : Type 0} (flags : List Bool) (xs : List A) → (flags ≡ []) ⊎ (xs ≡ []) → flagged flags xs ≡ []
 none_flagged [] xs e = refl
@@ -35,9 +33,9 @@ origin (false ∷ flags) i = suc (origin flags i)
 
 pub flagged_from : {A : Type 0} (flags : List Bool) (xs : List A) (i : ℕ) (x : A) → slice_get (flagged flags xs) i ≡ Some x → slice_get xs (origin flags i) ≡ Some x
 unfolding origin
-flagged_from [] xs i x e = absurd (none_is_not x e)
-flagged_from (true ∷ flags) [] i x e = absurd (none_is_not x e)
-flagged_from (false ∷ flags) [] i x e = absurd (none_is_not x e)
+flagged_from [] xs i x e = absurd (none-some x e)
+flagged_from (true ∷ flags) [] i x e = absurd (none-some x e)
+flagged_from (false ∷ flags) [] i x e = absurd (none-some x e)
 flagged_from (true ∷ flags) (y ∷ xs) zero x e = e
 flagged_from (true ∷ flags) (y ∷ xs) (suc i) x e = flagged_from flags xs i x e
 flagged_from (false ∷ flags) (y ∷ xs) i x e = flagged_from flags xs i x e

@@ -3,19 +3,13 @@ use Rattle.std.proofs.Common.{◌≡◌, ℕ, zero, suc, ◌<◌, Bool, true, fa
 use Rattle.std.specs.Prelude.{slice_get, option_map, IsTrue, All}
 use Rattle.std.proofs.lemmas.List.{length-map}
 use Rattle.std.proofs.lemmas.List.Elements.{All-from_get_or}
-use Rattle.std.proofs.lemmas.Option.{slice_get-map, slice_get_within, slice_get-get_or, get_or_from_slice_get}
+use Rattle.std.proofs.lemmas.Option.{same_Some, none-some, slice_get-map, slice_get_within, slice_get-get_or, get_or_from_slice_get}
 use Rattle.lg_circ.specs.declared.project.Point.{Point}
 use Rattle.lg_circ.specs.declared.project.Wire.{Wire}
 use Rattle.lg_nets.specs.Joined.{Place, place_at, Joined, AreLabels, AreAttached}
 use Rattle.lg_netlist.specs.Numbering.{IsNumbering}
 use Rattle.lg_flatten.specs.Flat.{flagged}
 use Rattle.lg_flatten.proofs.BitLemmas.{origin, flagged_from, flagged_as_long, All-flagged}
-
-some_is : {X : Type 0} (x y : X) → Some x ≡ Some y → x ≡ y
-some_is x y e = cc
-
-none_is_not : {X : Type 0} (x : X) → None ≡ Some x → ⊥
-none_is_not x e = cc
 
 -- the port at a place of the list
 abbrev PortAt : List Point → ℕ → Place → Type 0
@@ -25,8 +19,8 @@ port_at : (ports : List Point) (i : ℕ) (x : Place) → slice_get (map place_at
 port_at ports i x e = from (slice_get ports i) refl (sym (slice_get-map place_at ports i) ∙ e)
   where
     from : (o : Option Point) → slice_get ports i ≡ o → option_map place_at o ≡ Some x → PortAt ports i x
-    from None h k = absurd (none_is_not x k)
-    from (Some p) h k = (p, h, some_is (place_at p) x k)
+    from None h k = absurd (none-some x k)
+    from (Some p) h k = (p, h, same_Some (place_at p) x k)
 
 -- where a port that takes a net was before the others were left out, with its label
 record LabelAt (flags : List Bool) (ports : List Point) (labels : List ℕ) (i : ℕ) (x : Place) : Type 0 where

@@ -14,7 +14,7 @@ use Rattle.std.proofs.lemmas.Int.{ints, to_z-of_z}
 use mir.Val.{to_z, of_z}
 use mir.Syntax.{w32}
 use Rattle.lg_circ.specs.declared.project.Point.{Point}
-use Rattle.lg_flatten.specs.Uses.{is_on_sheet}
+use Rattle.lg_circ.specs.Bounds.{is_on_sheet}
 
 -- a point by its coordinates
 pub point_same : (x y x' y' : ℤ) → x ≡ x' → y ≡ y' → ◌≡◌ {A = Point} (record { x = x; y = y }) (record { x = x'; y = y' })

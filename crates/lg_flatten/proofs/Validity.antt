@@ -1,6 +1,6 @@
 -- The netlist of a sheet is valid.
-use Rattle.std.proofs.Common.{◌≡◌, ℕ, ◌^◌, ◌≤◌, ◌<◌, Bool, true, false, List, [], ◌∷◌, ◌++◌, length, take, drop, map, Option, Some, refl, sym, ap, subst, ◌∙◌, arith}
-use Rattle.std.specs.Prelude.{IsTrue, All, IfSome, slice_get}
+use Rattle.std.proofs.Common.{◌≡◌, ℕ, ◌^◌, ◌≤◌, ◌<◌, Bool, true, false, List, [], ◌∷◌, ◌++◌, length, take, drop, map, None, refl, sym, ap, subst, ◌∙◌, arith}
+use Rattle.std.specs.Prelude.{IsTrue, All}
 use Rattle.std.specs.List.{AllZip, IsDistinct, flat_map, zip}
 use Rattle.std.specs.Str.{bytes_eq}
 use Rattle.std.proofs.lemmas.List.{length-append, length-map, length-take-le, length-drop}
@@ -8,18 +8,16 @@ use Rattle.std.proofs.lemmas.List.Elements.{All-nil, All-cons, All-head, All-app
 use Rattle.std.proofs.lemmas.Slice.Zip.{AllZip-long}
 use Rattle.lg_circ.specs.declared.project.Comp.{Comp}
 use Rattle.lg_circ.specs.declared.project.Wire.{Wire}
-use Rattle.lg_circ.specs.declared.project.Sheet.{Sheet}
 use Rattle.lg_nets.specs.Joined.{place_at}
 use Rattle.lg_netlist.specs.declared.netlist.Cell.TheVariants as cell
 use Rattle.lg_netlist.specs.declared.netlist.PartUse.{PartUse}
 use Rattle.lg_netlist.specs.declared.netlist.PinUse.{PinUse}
-use Rattle.lg_netlist.specs.declared.netlist.Netlist.{Netlist}
 use Rattle.lg_netlist.specs.Names.{AreNames}
 use Rattle.lg_netlist.specs.Valid.{is_pin_name, IsPort, IsFittingPart, IsFittingPin, IsValid}
 use Rattle.lg_flatten.specs.declared.role.Role.{Role}
 use Rattle.lg_flatten.specs.declared.role.Role.TheVariants.{Pin, Gate}
 use Rattle.lg_flatten.specs.Uses.{Use, input_points, port_points, role_inputs}
-use Rattle.lg_flatten.specs.Flat.{role_labels, label_of, pin_labels, port_count, takes_net, take_nets, flagged, by_port, role_part, parts_of, role_pin, names_after, pins_of, ArePortBits, IsNetlistOf}
+use Rattle.lg_flatten.specs.Flat.{role_labels, label_of, pin_labels, port_count, takes_net, take_nets, flagged, role_part, parts_of, role_pin, names_after, pins_of, ArePortBits}
 use Rattle.lg_flatten.proofs.BitLemmas.{IsBits, by_port_bits, AllZip-first, AllZip-second}
 
 -- a flag for each port
@@ -48,7 +46,7 @@ role_part_fits : (circuit : List ℕ) (count : ℕ) (c : Comp) (r : Role) (ports
     → All (IsFittingPart count) (role_part circuit c (length (role_inputs c.loc r)) ports r)
 role_part_fits circuit count c (Pin input) ports all long = All-nil (IsFittingPart count)
 role_part_fits circuit count c (Gate cell.Not size) ports all long = one_part count _ (record {
-  takes = length-take-le 1 ports (omega (arith, long));
+  takes = let one = length-take-le 1 ports (omega (arith, long)) in (omega (arith, one), omega (arith, one));
   gives = omega (arith, long, length-drop 1 ports);
   inputs = All-take (IsPort count) 1 ports all;
   outputs = All-drop (IsPort count) 1 ports all;
@@ -180,19 +178,16 @@ pub bits_long : (wires : List Wire) (uses : List Use) (ports : List (List ℕ)) 
 bits_long wires uses ports count h =
     AllZip-long (IsBits count) (take_nets uses h.attached) ports (port_bits wires uses ports count h) ∙ flags_long uses h.attached h.are_attached.one_each
 
--- the netlist of few components is valid, where the names of pins can be spelled and differ
-pub valid : (sheet : Sheet) (comps : List Comp) (roles : List Role) (n : Netlist) (h : IsNetlistOf sheet (zip comps roles) n) → length comps < 2 ^ 32 → All (λ name. IsTrue (is_pin_name name)) h.names → IsDistinct bytes_eq h.names → IsValid n
-valid sheet comps roles n h few named differ =
+-- the parts and pins of few components are valid, where the names of pins can be spelled and differ
+pub valid : (circuit : List ℕ) (wires : List Wire) (comps : List Comp) (roles : List Role) (ports : List (List ℕ)) (count : ℕ) (names : List (List ℕ)) → ArePortBits wires (zip comps roles) ports count → AreNames [] (pin_labels (zip comps roles)) names
+    → length comps < 2 ^ 32 → All (λ name. IsTrue (is_pin_name name)) names → IsDistinct bytes_eq names → IsValid (parts_of circuit (zip comps roles) ports) (pins_of circuit names (zip comps roles) ports) [] count None
+valid circuit wires comps roles ports count names made naming few named differ =
     let uses : List Use = zip comps roles in
-    let ports = by_port (take_nets uses h.attached) h.nets in
-    let made : ArePortBits sheet.wires uses ports n.nets = record { attached = h.attached; nets = h.nets; are_attached = h.are_attached; numbering = h.numbering; bits = refl } in
-    let bits = port_bits sheet.wires uses ports n.nets made in
-    let pin_names : map name_of n.pins ≡ h.names =
-    ap (map name_of) h.pins ∙ names_of_pins sheet.name h.names uses ports (names_long [] (pin_labels uses) h.names h.naming) (bits_long sheet.wires uses ports n.nets made) in
     record {
-      few_parts = omega (arith, ap length h.parts, few_parts sheet.name comps roles ports, few);
-      parts = subst (All (IsFittingPart n.nets)) (sym h.parts) (parts_fit sheet.name n.nets uses h.attached ports h.are_attached.one_each bits);
-      pins = subst (All (IsFittingPin n.nets)) (sym h.pins) (pins_fit sheet.name n.nets h.names uses h.attached ports named h.are_attached.one_each bits);
-      names_differ = subst (IsDistinct bytes_eq) (sym pin_names) differ;
-      clock_pin = subst (λ (o : Option ℕ). IfSome o (λ place. (pin : PinUse) × (slice_get n.pins place ≡ Some pin) × (pin.input ≡ true))) (sym h.no_clock_pin) tt;
+      few_parts = omega (arith, few_parts circuit comps roles ports, few);
+      parts_fit = parts_fit circuit count uses made.attached ports made.are_attached.one_each (port_bits wires uses ports count made);
+      pins_fit = pins_fit circuit count names uses made.attached ports named made.are_attached.one_each (port_bits wires uses ports count made);
+      clocks_fit = All-nil (λ (c : ℕ × List ℕ). c.0 < count);
+      names_differ = subst (IsDistinct bytes_eq) (sym (names_of_pins circuit names uses ports (names_long [] (pin_labels uses) names naming) (bits_long wires uses ports count made))) differ;
+      clock_pin_is_input = tt;
     }

@@ -1,12 +1,10 @@
 -- What the components of a sheet are, so far: pins of one bit, and NOT, AND and OR gates of one bit.
 -- Source: the library reference of Logisim-evolution, Wiring (Pin) and Gates, with the places of this project.
-use Rattle.std.specs.Prelude.{◌≡◌, ℕ, ◌==◌, nat_le, ◌≤◌, Bool, true, false, not, IsTrue, ◌&&◌, List, [], ◌∷◌, ◌++◌, Option, Some, None, option_map, if◌then◌else◌, codes, ℤ, pos, unsigned_abs, ◌+ℤ◌, ◌-ℤ◌}
-use Rattle.std.specs.List.{list_all, list_any}
+use Rattle.std.specs.Prelude.{◌≡◌, ℕ, ◌==◌, ◌≤◌, Bool, true, false, ◌&&◌, List, [], ◌∷◌, ◌++◌, Option, Some, None, option_map, if◌then◌else◌, codes, ℤ, pos, ◌+ℤ◌, ◌-ℤ◌}
 use Rattle.std.specs.Str.{bytes_eq}
 use Rattle.lg_circ.specs.declared.project.Point.{Point}
 use Rattle.lg_circ.specs.declared.project.Comp.{Comp}
-use Rattle.lg_circ.specs.Grammar.{names_differ}
-use Rattle.lg_circ.specs.Tree.{value_under}
+use Rattle.lg_circ.specs.Pairs.{value_under, has_only}
 use Rattle.lg_circ.specs.Meaning.{◌>>=◌, each}
 use Rattle.lg_flatten.specs.declared.role.Role.{Role}
 use Rattle.lg_flatten.specs.declared.role.Role.TheVariants.{Pin, Gate}
@@ -15,14 +13,6 @@ use Rattle.lg_netlist.specs.declared.netlist.Cell.TheVariants as cell
 -- a component with what it is
 abbrev pub Use : Type 0
 Use = Comp × Role
-
--- how far from the origin a component may stand
-abbrev pub is_on_sheet : Point → Bool
-is_on_sheet p = nat_le (unsigned_abs p.x) 1000000 && nat_le (unsigned_abs p.y) 1000000
-
--- the settings have these names alone, each at most once
-abbrev pub has_only : List (List ℕ) → List (List ℕ × List ℕ) → Bool
-has_only names settings = list_all (λ (s : List ℕ × List ℕ). list_any (bytes_eq s.0) names) settings && names_differ settings
 
 -- the description of a component's library
 abbrev pub description : List (List ℕ × List ℕ) → Comp → Option (List ℕ)
@@ -71,12 +61,11 @@ gate_role name size =
 abbrev pub role_of : List (List ℕ × List ℕ) → Comp → Option Role
 role_of libs c =
     let settings = c.attrs.list in
-    if not (is_on_sheet c.loc) then None
-    else (if is_from (codes "#Wiring") libs c && bytes_eq c.name (codes "Pin") && has_only (codes "label" ∷ codes "output" ∷ []) settings
+    if is_from (codes "#Wiring") libs c && bytes_eq c.name (codes "Pin") && has_only (codes "label" ∷ codes "output" ∷ []) settings
     then pin_role (value_under (codes "output") settings)
     else (if is_from (codes "#Gates") libs c && has_only (codes "size" ∷ []) settings
     then gate_role c.name (value_under (codes "size") settings)
-    else None))
+    else None)
 
 -- what the components of a sheet are, in file order, where each is one of these
 abbrev pub roles_of : List (List ℕ × List ℕ) → List Comp → Option (List Role)
@@ -91,10 +80,10 @@ abbrev pub IsSmall : Role → Type 0
 IsSmall (Pin input) = Unit {0}
 IsSmall (Gate cell size) = size ≤ 70
 
--- one role for each component, each of them on the sheet and each gate small
+-- one role for each component, each gate small
 abbrev pub AreFit : List Comp → List Role → Type 0
 AreFit [] [] = Unit {0}
-AreFit (c ∷ comps) (r ∷ roles) = IsTrue (is_on_sheet c.loc) × IsSmall r × AreFit comps roles
+AreFit (c ∷ comps) (r ∷ roles) = IsSmall r × AreFit comps roles
 AreFit [] (r ∷ roles) = ⊥
 AreFit (c ∷ comps) [] = ⊥
 

@@ -3,7 +3,6 @@
 ghost use Rattle.std.specs.Prelude.{◌≡◌, ◌+◌, ◌*◌, ◌<◌, ◌^◌, length, IfOk};
 ghost use Rattle.std.specs.List.{zip};
 ghost use Rattle.lg_netlist.specs.declared.netlist.Netlist.{Netlist};
-ghost use Rattle.lg_netlist.specs.Valid.{IsValid};
 ghost use Rattle.lg_flatten.specs.Uses.{AreRoles};
 ghost use Rattle.lg_flatten.specs.Flat.{IsNetlistOf};
 
@@ -18,14 +17,13 @@ use lg_text::Text;
 use sqlite_items::Items;
 use std::alloc::{AllocError, Global};
 
-/// The netlist of a sheet whose components are these, as `roles` gave them. It is the only one, and a valid one.
+/// The netlist of a sheet whose components are these, as `roles` gave them. It is the only one.
 /// In time linear in components and wires, apart from finding the joined ports and naming the pins.
 pub fn netlist(alloc: Global, sheet: &Sheet, roles: &[Role]) -> Result<Netlist, AllocError>
     requires few { 3 * length sheet.now.comps + 2 * length sheet.now.wires < 2 ^ 32 }
     requires known { AreRoles sheet.now.comps roles.now }
     ensures found { IfOk result (λ n. IsNetlistOf sheet.now (zip sheet.now.comps roles.now) n) }
     ensures only { IfOk result (λ n. (other : Netlist) → IsNetlistOf sheet.now (zip sheet.now.comps roles.now) other → other ≡ n) }
-    ensures valid { IfOk result (λ n. IsValid n) }
 {
     let circuit = sheet.name.as_str();
     let comps = sheet.comps.as_slice();

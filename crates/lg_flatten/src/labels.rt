@@ -2,11 +2,10 @@
 
 ghost use Rattle.std.specs.Prelude.{◌≡◌, [], IfOk, codes, unwrap_or};
 ghost use Rattle.std.specs.List.{zip};
-ghost use Rattle.lg_circ.specs.Tree.{value_under};
+ghost use Rattle.lg_circ.specs.Pairs.{value_under};
 ghost use Rattle.lg_flatten.specs.Flat.{use_name, pin_labels};
 
 use crate::role::Role;
-use crate::settings::value_under;
 use lg_circ::Comp;
 use lg_text::Text;
 use sqlite_items::Items;
@@ -38,7 +37,7 @@ pub fn labels(alloc: Global, comps: &[Comp], roles: &[Role]) -> Result<Items<Tex
 fn label(alloc: Global, comp: &Comp) -> Result<Text, AllocError>
     ensures { IfOk result (λ label. label ≡ unwrap_or (value_under (codes "label") comp.now.attrs.list) []) }
 {
-    match value_under("label", comp.attrs.list.as_slice()) {
+    match comp.attrs.value("label") {
         Some(label) => Text::copy_of(alloc, label.as_str()),
         None => Ok(Text::new(alloc)),
     }

@@ -8,7 +8,6 @@ mod parts;
 mod pins;
 mod places;
 mod role;
-mod settings;
 mod uses;
 
 pub use flat::netlist;

@@ -3,7 +3,8 @@
 ghost use Rattle.std.specs.Prelude.{◌≡◌, [], ◌∷◌, ◌++◌, ◌≤◌, ◌-ℤ◌, ℕ, pos, unsigned_abs, length, IfOk, OnOk, IsTrue};
 ghost use Rattle.std.specs.List.{flat_map, zip};
 ghost use Rattle.lg_circ.specs.declared.project.Point.{Point};
-ghost use Rattle.lg_flatten.specs.Uses.{is_on_sheet, spread, moved, two_inputs, IsSmall, role_inputs, input_points, port_points, AreFit};
+ghost use Rattle.lg_circ.specs.Bounds.{is_on_sheet};
+ghost use Rattle.lg_flatten.specs.Uses.{spread, moved, two_inputs, IsSmall, role_inputs, input_points, port_points, AreFit};
 
 use crate::role::Role;
 use lg_circ::{Comp, Point};

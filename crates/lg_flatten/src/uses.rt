@@ -2,17 +2,13 @@
 
 ghost use Rattle.std.specs.Prelude.{◌≡◌, IfOk, IfSome, option_map};
 ghost use Rattle.std.specs.Option.{option_copied};
-ghost use Rattle.lg_flatten.specs.Uses.{is_on_sheet, description, is_from, pin_role, gate_size, not_sizes, wide_sizes, gate_role, role_of, roles_of, AreRoles};
+ghost use Rattle.lg_flatten.specs.Uses.{description, is_from, pin_role, gate_size, not_sizes, wide_sizes, gate_role, role_of, roles_of, AreRoles};
 
 use crate::role::Role;
-use crate::settings::{has_only, value_under};
-use lg_circ::{Comp, Point};
+use lg_circ::{Comp, value_under};
 use lg_netlist::Cell;
 use lg_text::Text;
 use std::alloc::{AllocError, Global};
-
-/// How far from the origin a component may stand, along either axis.
-const FARTHEST: u32 = 1_000_000;
 
 /// What the components of a sheet are, in file order, or none where one of them is not built yet. The libraries are
 /// the project's, each with its name and its description.
@@ -37,26 +33,15 @@ pub fn roles(
 fn role_of(libs: &[(Text, Text)], comp: &Comp) -> Option<Role>
     ensures { result ≡ role_of libs.now comp.now }
 {
-    let settings = comp.attrs.list.as_slice();
+    let attrs = &comp.attrs;
     let name = comp.name.as_str();
-    if !is_on_sheet(comp.loc) {
-        None
-    } else if is_from("#Wiring", libs, comp)
-        && name == "Pin"
-        && has_only(&["label", "output"], settings)
-    {
-        pin_role(value_under("output", settings))
-    } else if is_from("#Gates", libs, comp) && has_only(&["size"], settings) {
-        gate_role(name, value_under("size", settings))
+    if is_from("#Wiring", libs, comp) && name == "Pin" && attrs.has_only(&["label", "output"]) {
+        pin_role(attrs.value("output"))
+    } else if is_from("#Gates", libs, comp) && attrs.has_only(&["size"]) {
+        gate_role(name, attrs.value("size"))
     } else {
         None
     }
-}
-
-fn is_on_sheet(place: Point) -> bool
-    ensures { result ≡ is_on_sheet place }
-{
-    place.x.unsigned_abs() <= FARTHEST && place.y.unsigned_abs() <= FARTHEST
 }
 
 // Whether the component's library has this description.

@@ -1,9 +1,12 @@
 -- Each part of the netlist is what was made for it.
-use Rattle.std.proofs.Common.{◌≡◌, [], ℕ, List, length, refl, sym, ap, subst, ◌∙◌, arith}
-use Rattle.std.specs.List.{zip}
+use Rattle.std.proofs.Common.{◌≡◌, ◌<◌, ◌^◌, [], ℕ, List, length, refl, sym, ap, subst, ◌∙◌, arith}
+use Rattle.std.specs.Prelude.{IsTrue, All}
+use Rattle.std.specs.List.{zip, IsDistinct}
+use Rattle.std.specs.Str.{bytes_eq}
 use Rattle.lg_circ.specs.declared.project.Wire.{Wire}
 use Rattle.lg_circ.specs.declared.project.Comp.{Comp}
 use Rattle.lg_netlist.specs.Names.{AreNames}
+use Rattle.lg_netlist.specs.Valid.{is_pin_name}
 use Rattle.lg_flatten.specs.declared.role.Role.{Role}
 use Rattle.lg_flatten.specs.Uses.{AreFit}
 use Rattle.lg_flatten.specs.Flat.{pin_labels, parts_of, pins_of, ArePortBits, IsNetlistOf}
@@ -36,6 +39,23 @@ parts-requires c = ap length c.as_slice-bits.ensures ∙ bits_long c.as_slice-wi
 pub pins-requires : goal.pins-requires
 pins-requires c = ap length c.as_slice-bits.ensures ∙ bits_long c.as_slice-wires.result.now (zip c.as_slice-comps.result.now c.args.roles.now) c.in_ok-ports.ports c.in_ok-ports.count c.in_ok-ports.ensures
 
+pub invariant_of-result : goal.invariant_of-result
+invariant_of-result c =
+    let roles = c.args.roles.now in
+    let wires = c.as_slice-wires.result.now in
+    let comps = c.as_slice-comps.result.now in
+    let uses = zip comps roles in
+    let ports = c.as_slice-bits.result.now in
+    let names = c.as_slice-names.result.now in
+    let count = c.in_ok-ports.count in
+    let bits : ArePortBits wires uses ports count = subst (λ (ps : List (List ℕ)). ArePortBits wires uses ps count) (sym c.as_slice-bits.ensures) c.in_ok-ports.ensures in
+    let named : AreNames [] (pin_labels uses) names =
+    subst (AreNames [] (pin_labels uses)) (sym c.as_slice-names.ensures) (subst (λ (ls : List (List ℕ)). AreNames [] ls c.in_ok-found.found) (c.as_slice.ensures ∙ c.in_ok-labels.ensures) c.in_ok-found.ensures.named) in
+    let few : length comps < 2 ^ 32 = omega (arith, ap length c.as_slice-comps.ensures, c.requires.few) in
+    let spelled = subst (All (λ (name : List ℕ). IsTrue (is_pin_name name))) (sym c.as_slice-names.ensures) c.in_ok-found.ensures.spelled in
+    let differ = subst (IsDistinct bytes_eq) (sym c.as_slice-names.ensures) c.in_ok-found.ensures.differ in
+    record { valid = rw (c.in_ok-parts.ensures, c.in_ok-pins.ensures, c.new.ensures) (valid c.as_str-circuit.result.now wires comps roles ports count names bits named few spelled differ) }
+
 pub returns : goal.returns
 returns c =
     let sheet = c.args.sheet.now in
@@ -65,5 +85,4 @@ returns c =
     record {
       found = found;
       only = λ other is. one_netlist sheet uses _ other found is;
-      valid = valid sheet sheet.comps roles _ found (omega (arith, c.requires.few)) c.in_ok-found.ensures.spelled c.in_ok-found.ensures.differ;
     }
