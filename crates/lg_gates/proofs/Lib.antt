@@ -1,0 +1,5 @@
+pub mod DefinedLemmas
+pub mod GateLemmas
+pub mod PriorityLemmas
+pub mod SelectorLemmas
+pub mod Written
