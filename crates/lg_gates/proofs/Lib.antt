@@ -1,5 +1,6 @@
 pub mod DefinedLemmas
 pub mod GateLemmas
+pub mod PlexerLemmas
 pub mod PriorityLemmas
 pub mod SelectorLemmas
 pub mod Written

@@ -1,26 +1,29 @@
 //! Bit selectors.
 
-ghost use Rattle.std.specs.Prelude.{◌≡◌, ◌<◌, ◌≤◌, length};
+ghost use Rattle.std.specs.Prelude.{◌≡◌, ◌≤◌, length};
 ghost use Rattle.lg_value.specs.Word.{IsWidth};
 ghost use Rattle.lg_gates.specs.Selector.{bits_from, group_word};
 
 use lg_value::{Bit, Word};
 
 // The `count` bits of a word from a place on, 0 past its end. The count is 1 to 64.
-fn bits_from(word: &Word, start: u32, count: u32) -> Word
-    requires in_range { IsWidth count }
+fn bits_from(word: &Word, start: u64, count: u32) -> Word
+    requires { IsWidth count }
     ensures bits { result ≡ bits_from word.now start count }
     ensures width { length result ≡ count }
+    ensures short { length word.now ≤ 64 }
 {
     let width = word.width();
-    if start >= width {
+    if start >= u64::from(width) {
         return Word::fill(count, Bit::Zero);
     }
-    let held = width - start;
+    let low = start as u32;
+    let held = width - low;
     if count <= held {
-        word.cut(start, count)
+        word.cut(low, count)
     } else {
-        word.cut(start, held).glue(&Word::fill(count - held, Bit::Zero))
+        word.cut(low, held)
+            .glue(&Word::fill(count - held, Bit::Zero))
     }
 }
 
@@ -32,12 +35,11 @@ pub fn select_group(input: &Word, select: &Word, group: u32) -> Word
     ensures word { result ≡ group_word input.now select.now group }
     ensures width { length result ≡ group }
 {
-    if !select.defined() {
-        return Word::fill(group, Bit::Error);
-    }
-    let start = select.number().saturating_mul(u64::from(group));
-    match u32::try_from(start) {
-        Ok(start) => bits_from(input, start, group),
-        Err(_) => Word::fill(group, Bit::Zero),
+    if select.defined() {
+        // A start that would pass 64 bits lies past every word.
+        let start = select.number().saturating_mul(u64::from(group));
+        bits_from(input, start, group)
+    } else {
+        Word::fill(group, Bit::Error)
     }
 }
