@@ -20,7 +20,7 @@ fn greatest_one(bits: &[Bit]) -> Option<usize>
 {
     let mut greatest = None;
     for (place, bit) in bits.iter().enumerate() {
-        if matches!(bit, Bit::One) {
+        if let Bit::One = bit {
             greatest = Some(place);
         }
     }
@@ -38,14 +38,16 @@ pub fn priority(inputs: &[Bit], enable: Bit, select: u32, off: Bit) -> (Word, Bi
     ensures outputs { result ≡ priority_of inputs.now enable select off }
     ensures width { length result.0 ≡ select }
 {
-    if matches!(enable, Bit::Error) || !all_defined(inputs) {
-        return (Word::fill(select, Bit::Error), Bit::Error, Bit::Error);
+    let error = (Word::fill(select, Bit::Error), Bit::Error, Bit::Error);
+    if !all_defined(inputs) {
+        return error;
     }
-    if matches!(enable, Bit::Zero) {
-        return (Word::fill(select, off), Bit::Zero, Bit::Zero);
-    }
-    match greatest_one(inputs) {
-        Some(place) => (Word::from_number(select, place as u64), Bit::One, Bit::Zero),
-        None => (Word::fill(select, off), Bit::Zero, Bit::One),
+    match enable {
+        Bit::Error => error,
+        Bit::Zero => (Word::fill(select, off), Bit::Zero, Bit::Zero),
+        Bit::One | Bit::Unknown => match greatest_one(inputs) {
+            Some(place) => (Word::from_number(select, place as u64), Bit::One, Bit::Zero),
+            None => (Word::fill(select, off), Bit::Zero, Bit::One),
+        },
     }
 }
