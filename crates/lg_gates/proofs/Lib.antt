@@ -1,4 +1,6 @@
 pub mod DefinedLemmas
+pub mod DefinedOutputs
+pub mod GateLaws
 pub mod GateLemmas
 pub mod PlexerLemmas
 pub mod PriorityLemmas

@@ -1,14 +1,17 @@
 -- The greatest place that holds a 1, and what a priority encoder answers in each case.
-use Rattle.std.proofs.Common.{◌≡◌, ◌≢◌, ℕ, zero, suc, ◌+◌, ◌<◌, ◌≤◌, Bool, true, false, cond, ◌⊎◌, List, [], ◌∷◌, ◌++◌, Option, None, Some, length, get_or, take, replicate, sym, refl, inl, inr, ap, ◌∙◌, arith}
+use Rattle.std.proofs.Common.{◌≡◌, ◌≢◌, ℕ, zero, suc, ◌+◌, ◌^◌, ◌<◌, ◌≤◌, Bool, true, false, cond, ◌⊎◌, List, [], ◌∷◌, ◌++◌, Option, None, Some, length, get_or, take, replicate, sym, refl, inl, inr, ap, ◌∙◌, subst, arith}
 use Rattle.std.specs.Prelude.{if◌then◌else◌, not, ◌||◌}
 use Rattle.std.specs.List.{slice_get}
-use Rattle.std.proofs.lemmas.Option.{cond_some}
+use Rattle.std.proofs.lemmas.Bool.{cases_Bool}
+use Rattle.std.proofs.lemmas.Option.{cond_some, slice_get_within}
+use Rattle.std.proofs.Math.Nat.{mod-eq_of_lt}
 use Rattle.std.proofs.lemmas.List.{take_more, length-take-le}
 use Rattle.std.proofs.lemmas.List.Folds.{list_any-append}
 use Rattle.lg_value.specs.declared.bit.Bit.{Bit}
 use Rattle.lg_value.specs.declared.bit.Bit.TheVariants.{Zero, One, Unknown, Error}
 use Rattle.lg_value.specs.Bit.{same_bit}
-use Rattle.lg_value.specs.Word.{word_of_number}
+use Rattle.lg_value.specs.Word.{number_of, word_of_number}
+use Rattle.lg_value.proofs.WordLemmas.{number_of-word_of_number}
 use Rattle.lg_gates.specs.Gate.{some_one, all_defined}
 use Rattle.lg_gates.specs.Priority.{greatest_one, IsGreatestOne, encodes_error, priority_of}
 
@@ -103,3 +106,56 @@ unfolding priority_of
 priority_of-none inputs enable width off h on is =
     let no = none_is (some_one inputs) (greatest_one inputs) is in
     elim on [ inl e ↦ rw (h, e, no) refl | inr e ↦ rw (h, e, no) refl ]
+
+above_shift : (b : Bit) (higher : List Bit) (p k : ℕ) → ((m : ℕ) → p < m → slice_get higher m ≢ Some One) → suc p < k → slice_get (b ∷ higher) k ≢ Some One
+above_shift b higher p zero above h = absurd (omega (arith, h))
+above_shift b higher p (suc m) above h = above m (omega (arith, h))
+
+greatest_shift : (b : Bit) (higher : List Bit) (p : ℕ) → IsGreatestOne higher p → IsGreatestOne (b ∷ higher) (suc p)
+greatest_shift b higher p greatest = record {
+  holds = greatest.holds;
+  above = λ k h. above_shift b higher p k greatest.above h;
+}
+
+holds_no_one : (bits : List Bit) (k : ℕ) → some_one bits ≡ false → slice_get bits k ≢ Some One
+holds_no_one [] k none_is_one is = absurd (cc is)
+holds_no_one (One ∷ bits) k none_is_one is = absurd (cc none_is_one)
+holds_no_one (Zero ∷ bits) zero none_is_one is = absurd (cc is)
+holds_no_one (Unknown ∷ bits) zero none_is_one is = absurd (cc is)
+holds_no_one (Error ∷ bits) zero none_is_one is = absurd (cc is)
+holds_no_one (Zero ∷ bits) (suc k) none_is_one is = holds_no_one bits k none_is_one is
+holds_no_one (Unknown ∷ bits) (suc k) none_is_one is = holds_no_one bits k none_is_one is
+holds_no_one (Error ∷ bits) (suc k) none_is_one is = holds_no_one bits k none_is_one is
+
+above_first : (b : Bit) (higher : List Bit) (k : ℕ) → some_one higher ≡ false → 0 < k → slice_get (b ∷ higher) k ≢ Some One
+above_first b higher zero none_is_one h = absurd (omega (arith, h))
+above_first b higher (suc k) none_is_one h = holds_no_one higher k none_is_one
+
+first_is_one : (b : Bit) (higher : List Bit) → some_one (b ∷ higher) ≡ true → some_one higher ≡ false → b ≡ One
+first_is_one One higher h none_is_one = refl
+first_is_one Zero higher h none_is_one = absurd (cc (h, none_is_one))
+first_is_one Unknown higher h none_is_one = absurd (cc (h, none_is_one))
+first_is_one Error higher h none_is_one = absurd (cc (h, none_is_one))
+
+-- where some bit is 1, the greatest place that holds a 1 is one
+pub greatest_one-is : (bits : List Bit) → some_one bits ≡ true → IsGreatestOne bits (greatest_one bits)
+greatest_one-is [] h = absurd (cc h)
+greatest_one-is (b ∷ higher) h =
+    elim (cases_Bool (some_one higher)) [
+      | inl some_above ↦
+          let place : suc (greatest_one higher) ≡ greatest_one (b ∷ higher) = rw some_above (omega arith) in
+          subst (IsGreatestOne (b ∷ higher)) place (greatest_shift b higher (greatest_one higher) (greatest_one-is higher some_above))
+      | inr none_is_one ↦
+          let place : 0 ≡ greatest_one (b ∷ higher) = rw none_is_one refl in
+          subst (IsGreatestOne (b ∷ higher)) place (record {
+            holds = ap (λ (x : Bit). Some x) (first_is_one b higher h none_is_one);
+            above = λ k up. above_first b higher k none_is_one up;
+          })
+    ]
+
+-- the address is the number of that place
+pub address-greatest_one : (inputs : List Bit) (width : ℕ) → some_one inputs ≡ true → length inputs ≡ 2 ^ width → number_of (word_of_number width (greatest_one inputs)) ≡ greatest_one inputs
+address-greatest_one inputs width some count =
+    let greatest = greatest_one-is inputs some in
+    let inside : greatest_one inputs < 2 ^ width = omega (arith, slice_get_within inputs (greatest_one inputs) One greatest.holds) in
+    number_of-word_of_number width (greatest_one inputs) ∙ mod-eq_of_lt inside

@@ -16,7 +16,7 @@ bits_from_is : (word start_bits : List Bit) (start count : ℕ) → length start
 bits_from_is word start_bits start count wide bits =
     same_lists start_bits (bits_from word start count) (wide ∙ sym (length-bits_from word start count))
     (λ k d h. let inside : k < count = omega arith in
-      bits k d inside ∙ sym (get_or-map-range_with_len (λ place. get_or word place Zero) start count k (start + k) d inside (omega arith)))
+    bits k d inside ∙ sym (get_or-map-range_with_len (λ place. get_or word place Zero) start count k (start + k) d inside (omega arith)))
 
 -- past the end of the word there is nothing but 0
 pub bits_from_past : (word : List Bit) (start count : ℕ) → length word ≤ start → replicate count Zero ≡ bits_from word start count
@@ -46,12 +46,12 @@ bits_from_over word start held count ends over =
     bits_from_is word (low ++ high) start count (omega (arith, length-append low high, length-replicate (count - held) Zero))
     (λ k d h. elim (cases_lt k held) [
       | inl inner ↦
-        let short : k < length low = omega arith in
-        get_or_append_left low high d k short ∙ inside_bit word start held k d inner (omega arith)
+          let short : k < length low = omega arith in
+          get_or_append_left low high d k short ∙ inside_bit word start held k d inner (omega arith)
       | inr outer ↦
-        let place : length low + (k - held) ≡ k = omega arith in
-        ap (λ (n : ℕ). get_or (low ++ high) n d) (sym place) ∙ get_or-append-add low high (k - held) d
-        ∙ get_or-replicate (count - held) (k - held) Zero d (omega arith) ∙ sym (get_or_past word (start + k) Zero (omega arith))
+          let place : length low + (k - held) ≡ k = omega arith in
+          ap (λ (n : ℕ). get_or (low ++ high) n d) (sym place) ∙ get_or-append-add low high (k - held) d
+          ∙ get_or-replicate (count - held) (k - held) Zero d (omega arith) ∙ sym (get_or_past word (start + k) Zero (omega arith))
     ])
 
 -- a start that is cut off at the greatest number of 64 bits gives the same

@@ -10,7 +10,7 @@ pub written_more : (P : ℕ → Bit → Type 0) (old new : List Bit) (i : ℕ) (
 written_more P old new i b inside is here below =
     below_more (λ k. P k (get_or new k Unknown)) i
     (λ k h. let apart : k ≢ i = omega arith in
-      subst (P k) (sym (ap (λ (l : List Bit). get_or l k Unknown) is ∙ get_or-set_other old i k b Unknown apart)) (below k h))
+    subst (P k) (sym (ap (λ (l : List Bit). get_or l k Unknown) is ∙ get_or-set_other old i k b Unknown apart)) (below k h))
     (subst (P i) (sym (ap (λ (l : List Bit). get_or l i Unknown) is ∙ get_or-set_same old i b Unknown inside)) here)
 
 -- a word that has each bit changed by f
@@ -18,4 +18,4 @@ pub written_map : (f : Bit → Bit) (word changed : List Bit) → length changed
 written_map f word changed wide bits =
     same_lists changed (map f word) (wide ∙ sym (length-map word f))
     (λ k d h. let inside : k < length word = omega arith in
-      get_or_default changed k d Unknown h ∙ bits k inside ∙ sym (get_or-map f word k Unknown d inside))
+    get_or_default changed k d Unknown h ∙ bits k inside ∙ sym (get_or-map f word k Unknown d inside))

@@ -6,6 +6,7 @@ use Rattle.std.specs.List.{list_all, list_any, filter_map, range_with_len}
 use Rattle.lg_value.specs.declared.bit.Bit.{Bit}
 use Rattle.lg_value.specs.declared.bit.Bit.TheVariants.{Zero, One, Unknown, Error}
 use Rattle.lg_value.specs.Bit.{same_bit, is_defined_bit, not_bit}
+use Rattle.lg_value.specs.Word.{IsDefined}
 use Rattle.lg_gates.specs.declared.gates.GateKind.{GateKind}
 use Rattle.lg_gates.specs.declared.gates.GateKind.TheVariants.{And, Or, Nand, Nor, XorOne, XorOdd, XnorOne, XnorOdd, OddParity, EvenParity}
 
@@ -82,3 +83,7 @@ gate_word kind width inputs strict =
 -- each attached input has this width
 abbrev pub HaveWidth : ℕ → List (Option (List Bit)) → Type 0
 HaveWidth width inputs = All (λ input. IfSome input (λ word. length word ≡ width)) inputs
+
+-- each attached input is defined
+abbrev pub CarryDefined : List (Option (List Bit)) → Type 0
+CarryDefined inputs = All (λ input. IfSome input IsDefined) inputs

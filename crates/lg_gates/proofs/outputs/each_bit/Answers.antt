@@ -16,7 +16,7 @@ loop-place-preserved g c =
     record {
       width = omega arith;
       bits = written_more (λ k b. g.F.Fn.post c.args.change (get_or word k Unknown, tt) b) l.changed c.with_bit-changed.result l.place c.change.result (omega arith) c.with_bit-changed.ensures.bits
-        (subst (λ (b : Bit). g.F.Fn.post c.args.change (b, tt) c.change.result) (sym read) c.change.ensures) l.invariant.bits;
+          (subst (λ (b : Bit). g.F.Fn.post c.args.change (b, tt) c.change.result) (sym read) c.change.ensures) l.invariant.bits;
     }
 
 pub returns-clause-bits : goal.returns-clause-bits

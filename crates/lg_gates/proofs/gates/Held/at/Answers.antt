@@ -20,18 +20,18 @@ loop-input-preserved c =
     let held = l.invariant.held in
     elim c.match-input.branch [
       | in-Some+in-Zero w ↦
-        let read = get_or_from_slice_get w.in-Some.word place w.bit.result Unknown w.bit.ensures ∙ w.in-Zero.is in
-        let h = held_zero place inputs i l.some_zero l.all_defined l.ones w.in-Some.word inside (item ∙ w.in-Some.is) read held in
-        record { held = record { some_zero = w.some_zero-is ∙ h.some_zero; all_defined = w.all_defined-is ∙ h.all_defined; ones = w.ones-is ∙ h.ones }; few = omega arith }
+          let read = get_or_from_slice_get w.in-Some.word place w.bit.result Unknown w.bit.ensures ∙ w.in-Zero.is in
+          let h = held_zero place inputs i l.some_zero l.all_defined l.ones w.in-Some.word inside (item ∙ w.in-Some.is) read held in
+          record { held = record { some_zero = w.some_zero-is ∙ h.some_zero; all_defined = w.all_defined-is ∙ h.all_defined; ones = w.ones-is ∙ h.ones }; few = omega arith }
       | in-Some+in-One w ↦
-        let read = get_or_from_slice_get w.in-Some.word place w.bit.result Unknown w.bit.ensures ∙ w.in-One.is in
-        let h = held_one place inputs i l.some_zero l.all_defined l.ones w.in-Some.word inside (item ∙ w.in-Some.is) read held in
-        record { held = record { some_zero = w.some_zero-is ∙ h.some_zero; all_defined = w.all_defined-is ∙ h.all_defined; ones = w.ones-is ∙ h.ones }; few = omega arith }
+          let read = get_or_from_slice_get w.in-Some.word place w.bit.result Unknown w.bit.ensures ∙ w.in-One.is in
+          let h = held_one place inputs i l.some_zero l.all_defined l.ones w.in-Some.word inside (item ∙ w.in-Some.is) read held in
+          record { held = record { some_zero = w.some_zero-is ∙ h.some_zero; all_defined = w.all_defined-is ∙ h.all_defined; ones = w.ones-is ∙ h.ones }; few = omega arith }
       | in-Some+in-Unknown w ↦
-        let read = get_or_from_slice_get w.in-Some.word place w.bit.result Unknown w.bit.ensures in
-        let h = held_undefined place inputs i l.some_zero l.all_defined l.ones w.in-Some.word w.bit.result inside (item ∙ w.in-Some.is) read w.in-Unknown.is held in
-        record { held = record { some_zero = w.some_zero-is ∙ h.some_zero; all_defined = w.all_defined-is ∙ h.all_defined; ones = w.ones-is ∙ h.ones }; few = omega arith }
+          let read = get_or_from_slice_get w.in-Some.word place w.bit.result Unknown w.bit.ensures in
+          let h = held_undefined place inputs i l.some_zero l.all_defined l.ones w.in-Some.word w.bit.result inside (item ∙ w.in-Some.is) read w.in-Unknown.is held in
+          record { held = record { some_zero = w.some_zero-is ∙ h.some_zero; all_defined = w.all_defined-is ∙ h.all_defined; ones = w.ones-is ∙ h.ones }; few = omega arith }
       | in_default w ↦
-        let h = held_none place inputs i l.some_zero l.all_defined l.ones inside (item ∙ w.in_default.is) held in
-        record { held = record { some_zero = w.some_zero-is ∙ h.some_zero; all_defined = w.all_defined-is ∙ h.all_defined; ones = w.ones-is ∙ h.ones }; few = omega arith }
+          let h = held_none place inputs i l.some_zero l.all_defined l.ones inside (item ∙ w.in_default.is) held in
+          record { held = record { some_zero = w.some_zero-is ∙ h.some_zero; all_defined = w.all_defined-is ∙ h.all_defined; ones = w.ones-is ∙ h.ones }; few = omega arith }
     ]
