@@ -263,7 +263,6 @@ fn demultiplexers_and_decoders(rt: HostRuntime) {
 
 #[test]
 fn priority_encoders_of_four_inputs(rt: HostRuntime) {
-    let error = (Word::fill(2, Error), Error, Error);
     let table = [
         (
             [Zero, Zero, Zero, Zero],
@@ -295,9 +294,21 @@ fn priority_encoders_of_four_inputs(rt: HostRuntime) {
             Zero,
             (Word::fill(2, Unknown), Zero, Zero),
         ),
-        ([One, Zero, Zero, One], Error, error),
-        ([One, Unknown, Zero, One], One, error),
-        ([Error, Zero, Zero, Zero], Zero, error),
+        (
+            [One, Zero, Zero, One],
+            Error,
+            (Word::fill(2, Error), Error, Error),
+        ),
+        (
+            [One, Unknown, Zero, One],
+            One,
+            (Word::fill(2, Error), Error, Error),
+        ),
+        (
+            [Error, Zero, Zero, Zero],
+            Zero,
+            (Word::fill(2, Error), Error, Error),
+        ),
     ];
     for (inputs, enable, want) in table {
         assert_eq!(rt;
