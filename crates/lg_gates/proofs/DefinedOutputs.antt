@@ -1,24 +1,22 @@
 -- Defined inputs give defined outputs.
-use Rattle.std.proofs.Common.{◌≡◌, ℕ, zero, suc, ◌+◌, ◌*◌, ◌^◌, ◌%◌, ◌==◌, ◌<◌, ◌≤◌, Bool, true, false, cond, ◌⊎◌, List, [], ◌∷◌, Option, None, Some, length, get_or, map, replicate, sym, refl, ap, ◌∙◌, subst, inl, inr, arith}
-use Rattle.std.specs.Prelude.{◌&&◌, ◌||◌, not, if◌then◌else◌}
-use Rattle.std.specs.List.{All, AllByRecursion, list_all, list_any, range_with_len}
+use Rattle.std.proofs.Common.{◌≡◌, ℕ, zero, suc, ◌+◌, ◌*◌, ◌^◌, ◌%◌, ◌==◌, ◌<◌, ◌≤◌, Bool, true, false, cond, ◌⊎◌, List, [], ◌∷◌, Option, None, Some, length, get_or, map, replicate, refl, ap, arith}
+use Rattle.std.specs.List.{All, AllByRecursion, range_with_len}
 use Rattle.std.specs.Option.{IfSome}
-use Rattle.std.proofs.lemmas.Bool.Decides.{Decides-eqb}
 use Rattle.std.proofs.lemmas.List.Elements.{recursion_from_All, All-map, All-get_or, All-from_get_or}
 use Rattle.std.proofs.lemmas.List.FromFn.{get_or-range_with_len, length-range_with_len}
 use Rattle.lg_value.specs.declared.bit.Bit.{Bit}
 use Rattle.lg_value.specs.declared.bit.Bit.TheVariants.{Zero, One, Unknown, Error}
-use Rattle.lg_value.specs.Bit.{same_bit, is_defined_bit, not_bit}
+use Rattle.lg_value.specs.Bit.{is_defined_bit, not_bit}
 use Rattle.lg_value.specs.Word.{IsDefined, number_of, word_of_number}
 use Rattle.lg_value.proofs.WordLemmas.{number_of-lt, IsDefined-word_of_number}
 use Rattle.lg_gates.specs.declared.gates.GateKind.{GateKind}
 use Rattle.lg_gates.specs.declared.gates.GateKind.TheVariants.{And, Or, Nand, Nor, XorOne, XorOdd, XnorOne, XnorOdd, OddParity, EvenParity}
 use Rattle.lg_gates.specs.declared.outputs.OutForm.TheVariants.{ZeroOne}
 use Rattle.lg_gates.specs.Gate.{some_zero, some_one, all_defined, ones, bit_of, gate_bit, lacks_inputs, gate_word, HaveWidth, CarryDefined}
-use Rattle.lg_gates.specs.Shape.{not_word, buffer_bit, buffer_word, shape_bit, shape_word}
+use Rattle.lg_gates.specs.Shape.{not_word, buffer_word, shape_word}
 use Rattle.lg_gates.specs.Plexer.{pick_word, spread_word, enabled_word}
 use Rattle.lg_gates.specs.Priority.{greatest_one, priority_of}
-use Rattle.lg_gates.specs.Selector.{bits_from, group_word}
+use Rattle.lg_gates.specs.Selector.{group_word}
 use Rattle.lg_gates.proofs.DefinedLemmas.{Decides-is_defined_bit, Decides-all_defined, IsDefined-replicate}
 use Rattle.lg_gates.proofs.GateLemmas.{seen, gate_word-served}
 use Rattle.lg_gates.proofs.PlexerLemmas.{pick_word-defined, group_word-defined}

@@ -1,5 +1,5 @@
 -- Gates that invert others, the order of inputs, and gates of few inputs.
-use Rattle.std.proofs.Common.{◌≡◌, ℕ, zero, suc, ◌+◌, ◌%◌, ◌==◌, ◌<◌, ◌≤◌, Bool, true, false, cond, ltb, List, [], ◌∷◌, Option, None, Some, length, get_or, map, replicate, sum_by, sym, refl, ap, ◌∙◌, arith}
+use Rattle.std.proofs.Common.{◌≡◌, ℕ, zero, suc, ◌+◌, ◌%◌, ◌==◌, ◌<◌, Bool, true, false, cond, List, [], ◌∷◌, Option, None, Some, length, get_or, map, replicate, sum_by, sym, refl, ap, ◌∙◌, arith}
 use Rattle.std.specs.Prelude.{◌&&◌, ◌||◌, not, is_none}
 use Rattle.std.specs.List.{list_all, list_any, range_with_len}
 use Rattle.std.specs.List.Sorted.{IsPermutation}
@@ -13,7 +13,7 @@ use Rattle.lg_gates.specs.declared.gates.GateKind.{GateKind}
 use Rattle.lg_gates.specs.declared.gates.GateKind.TheVariants.{And, Or, Nand, Nor, XorOne, XorOdd, XnorOne, XnorOdd, OddParity, EvenParity}
 use Rattle.lg_gates.specs.Gate.{some_zero, some_one, all_defined, ones, bit_of, gate_bit, attached, lacks_inputs, gate_word}
 use Rattle.lg_gates.specs.Shape.{not_word}
-use Rattle.lg_gates.proofs.GateLemmas.{seen, gate_word-lacking, gate_word-served}
+use Rattle.lg_gates.proofs.GateLemmas.{seen}
 
 map_agree : {A : Type 0} (f g : A → Bit) → ((x : A) → f x ≡ g x) → (xs : List A) → map f xs ≡ map g xs
 map_agree f g same [] = refl

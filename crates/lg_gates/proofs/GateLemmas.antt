@@ -1,19 +1,19 @@
 -- What the attached inputs of a gate hold at one place.
-use Rattle.std.proofs.Common.{◌≡◌, ℕ, zero, suc, ◌+◌, ◌<◌, Bool, true, false, cond, ltb, ◌⊎◌, List, [], ◌∷◌, ◌++◌, Option, None, Some, length, get_or, take, map, sym, refl, inl, inr, ap, ◌∙◌, arith, append-nil}
+use Rattle.std.proofs.Common.{◌≡◌, ℕ, ◌+◌, ◌<◌, Bool, true, false, cond, ltb, ◌⊎◌, List, [], ◌∷◌, ◌++◌, Option, None, Some, length, get_or, take, map, sym, refl, inl, inr, ap, ◌∙◌, arith, append-nil}
 use Rattle.std.specs.Prelude.{◌&&◌, ◌||◌}
 use Rattle.std.specs.Prelude.{replicate}
-use Rattle.std.specs.List.{All, filter_map, range_with_len}
+use Rattle.std.specs.List.{range_with_len}
 use Rattle.std.proofs.lemmas.List.FromFn.{fill_by_all}
-use Rattle.std.specs.Option.{IfSome}
+use Rattle.std.proofs.Math.Bool.{or-true, or-false, and-true, and-false}
 use Rattle.std.proofs.lemmas.Bool.{lt-ltb}
 use Rattle.std.proofs.lemmas.List.{take_more, map-append}
-use Rattle.std.proofs.lemmas.List.Elements.{filter_map-append, All-get_or}
+use Rattle.std.proofs.lemmas.List.Elements.{filter_map-append}
 use Rattle.std.proofs.lemmas.List.Folds.{list_any-append, list_all-append}
 use Rattle.std.proofs.lemmas.List.Sums.{sum_by_push, sum_by-cons}
 use Rattle.lg_value.specs.declared.bit.Bit.{Bit}
 use Rattle.lg_value.specs.declared.bit.Bit.TheVariants.{Zero, One, Unknown, Error}
 use Rattle.lg_value.specs.Bit.{same_bit, is_defined_bit}
-use Rattle.lg_gates.specs.Gate.{some_zero, some_one, all_defined, ones, gate_bit, attached, bits_at, lacks_inputs, gate_word, HaveWidth}
+use Rattle.lg_gates.specs.Gate.{some_zero, some_one, all_defined, ones, gate_bit, attached, bits_at, lacks_inputs, gate_word}
 use Rattle.lg_gates.specs.declared.gates.GateKind.{GateKind}
 
 -- the bits at one place of the attached ones among some inputs
@@ -35,22 +35,6 @@ pub record IsHeld (zero_seen defined : Bool) (count : ℕ) (bits : List Bit) : T
   pub some_zero : zero_seen ≡ some_zero bits
   pub all_defined : defined ≡ all_defined bits
   pub ones : count ≡ ones bits
-
-or_true : (b : Bool) → (b || true) ≡ true
-or_true true = refl
-or_true false = refl
-
-or_false : (b : Bool) → (b || false) ≡ b
-or_false true = refl
-or_false false = refl
-
-and_true : (b : Bool) → (b && true) ≡ b
-and_true true = refl
-and_true false = refl
-
-and_false : (b : Bool) → (b && false) ≡ false
-and_false true = refl
-and_false false = refl
 
 some_zero_push : (bits : List Bit) (b : Bit) → some_zero (bits ++ b ∷ []) ≡ (some_zero bits || some_zero (b ∷ []))
 some_zero_push bits b = list_any-append (same_bit Zero) bits (b ∷ [])
@@ -94,17 +78,17 @@ held_same p q r held = record { some_zero = p ∙ held.some_zero; all_defined = 
 -- an attached input adds its bit
 pub held_zero : (place : ℕ) (inputs : List (Option (List Bit))) (i : ℕ) (s d : Bool) (n : ℕ) (word : List Bit) → i < length inputs → get_or inputs i None ≡ Some word → get_or word place Unknown ≡ Zero → IsHeld s d n (seen place (take i inputs)) → IsHeld true d n (seen place (take (i + 1) inputs))
 held_zero place inputs i s d n word inside is read held =
-    held_same (sym (or_true s)) (sym (and_true d)) (omega arith) (held_some place inputs i s d n word Zero inside is read held)
+    held_same (sym (or-true s)) (sym (and-true d)) (omega arith) (held_some place inputs i s d n word Zero inside is read held)
 
 pub held_one : (place : ℕ) (inputs : List (Option (List Bit))) (i : ℕ) (s d : Bool) (n : ℕ) (word : List Bit) → i < length inputs → get_or inputs i None ≡ Some word → get_or word place Unknown ≡ One → IsHeld s d n (seen place (take i inputs)) → IsHeld s d (n + 1) (seen place (take (i + 1) inputs))
 held_one place inputs i s d n word inside is read held =
-    held_same (sym (or_false s)) (sym (and_true d)) refl (held_some place inputs i s d n word One inside is read held)
+    held_same (sym (or-false s)) (sym (and-true d)) refl (held_some place inputs i s d n word One inside is read held)
 
 pub held_undefined : (place : ℕ) (inputs : List (Option (List Bit))) (i : ℕ) (s d : Bool) (n : ℕ) (word : List Bit) (b : Bit) → i < length inputs → get_or inputs i None ≡ Some word → get_or word place Unknown ≡ b → (b ≡ Unknown) ⊎ (b ≡ Error) → IsHeld s d n (seen place (take i inputs)) → IsHeld s false n (seen place (take (i + 1) inputs))
 held_undefined place inputs i s d n word b inside is read undefined held =
     elim undefined [
-      | inl e ↦ held_same (sym (or_false s)) (sym (and_false d)) (omega arith) (held_some place inputs i s d n word Unknown inside is (read ∙ e) held)
-      | inr e ↦ held_same (sym (or_false s)) (sym (and_false d)) (omega arith) (held_some place inputs i s d n word Error inside is (read ∙ e) held)
+      | inl e ↦ held_same (sym (or-false s)) (sym (and-false d)) (omega arith) (held_some place inputs i s d n word Unknown inside is (read ∙ e) held)
+      | inr e ↦ held_same (sym (or-false s)) (sym (and-false d)) (omega arith) (held_some place inputs i s d n word Error inside is (read ∙ e) held)
     ]
 
 counts : (b : Bit) (bits : List Bit) → ones (b ∷ bits) ≡ cond (same_bit One b) 1 0 + ones bits

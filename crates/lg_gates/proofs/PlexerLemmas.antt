@@ -1,6 +1,6 @@
 -- What plexers answer where their select is defined, and where it is not.
 use Rattle.std.proofs.lemmas.Bool.{ne_eqb}
-use Rattle.std.proofs.Common.{◌≡◌, ℕ, ◌==◌, ◌*◌, true, false, List, [], ◌∷◌, get_or, refl, eq-eqb}
+use Rattle.std.proofs.Common.{◌≡◌, ℕ, ◌*◌, true, false, List, [], ◌∷◌, get_or, refl, eq-eqb}
 use Rattle.std.specs.Prelude.{replicate, length}
 use Rattle.lg_value.specs.declared.bit.Bit.{Bit}
 use Rattle.lg_value.specs.declared.bit.Bit.TheVariants.{Error}

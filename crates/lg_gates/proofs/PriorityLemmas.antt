@@ -1,7 +1,8 @@
 -- The greatest place that holds a 1, and what a priority encoder answers in each case.
-use Rattle.std.proofs.Common.{◌≡◌, ◌≢◌, ℕ, zero, suc, ◌+◌, ◌^◌, ◌<◌, ◌≤◌, Bool, true, false, cond, ◌⊎◌, List, [], ◌∷◌, ◌++◌, Option, None, Some, length, get_or, take, replicate, sym, refl, inl, inr, ap, ◌∙◌, subst, arith}
-use Rattle.std.specs.Prelude.{if◌then◌else◌, not, ◌||◌}
+use Rattle.std.proofs.Common.{◌≡◌, ◌≢◌, ℕ, zero, suc, ◌+◌, ◌^◌, ◌<◌, Bool, true, false, cond, ◌⊎◌, List, [], ◌∷◌, ◌++◌, Option, None, Some, length, get_or, take, replicate, refl, inl, inr, ap, ◌∙◌, subst, arith}
+use Rattle.std.specs.Prelude.{if◌then◌else◌, ◌||◌}
 use Rattle.std.specs.List.{slice_get}
+use Rattle.std.proofs.Math.Bool.{or-true, or-false}
 use Rattle.std.proofs.lemmas.Bool.{cases_Bool}
 use Rattle.std.proofs.lemmas.Option.{cond_some, slice_get_within}
 use Rattle.std.proofs.Math.Nat.{mod-eq_of_lt}
@@ -13,15 +14,7 @@ use Rattle.lg_value.specs.Bit.{same_bit}
 use Rattle.lg_value.specs.Word.{number_of, word_of_number}
 use Rattle.lg_value.proofs.WordLemmas.{number_of-word_of_number}
 use Rattle.lg_gates.specs.Gate.{some_one, all_defined}
-use Rattle.lg_gates.specs.Priority.{greatest_one, IsGreatestOne, encodes_error, priority_of}
-
-or_true : (b : Bool) → (b || true) ≡ true
-or_true true = refl
-or_true false = refl
-
-or_false : (b : Bool) → (b || false) ≡ b
-or_false true = refl
-or_false false = refl
+use Rattle.lg_gates.specs.Priority.{greatest_one, IsGreatestOne, priority_of}
 
 -- what is found among some bits
 abbrev pub found : List Bit → Option ℕ
@@ -37,11 +30,11 @@ cond_same b x y h = rw h refl
 greatest_one_push : (bits : List Bit) → greatest_one (bits ++ One ∷ []) ≡ length bits
 greatest_one_push [] = refl
 greatest_one_push (b ∷ bits) =
-    let yes : some_one (bits ++ One ∷ []) ≡ true = some_one_push bits One ∙ or_true (some_one bits) in
+    let yes : some_one (bits ++ One ∷ []) ≡ true = some_one_push bits One ∙ or-true (some_one bits) in
     cond_same (some_one (bits ++ One ∷ [])) (greatest_one (bits ++ One ∷ []) + 1) 0 yes ∙ rw (greatest_one_push bits) (omega arith)
 
 some_one_same : (bits : List Bit) (b : Bit) → same_bit One b ≡ false → some_one (bits ++ b ∷ []) ≡ some_one bits
-some_one_same bits b h = some_one_push bits b ∙ rw h (or_false (some_one bits))
+some_one_same bits b h = some_one_push bits b ∙ rw h (or-false (some_one bits))
 
 -- no 1 above changes nothing
 greatest_one_same : (bits : List Bit) (b : Bit) → same_bit One b ≡ false → greatest_one (bits ++ b ∷ []) ≡ greatest_one bits
@@ -52,7 +45,7 @@ greatest_one_same (x ∷ bits) b h =
 
 found_push_one : (bits : List Bit) → found (bits ++ One ∷ []) ≡ Some (length bits)
 found_push_one bits =
-    cond_same (some_one (bits ++ One ∷ [])) (Some (greatest_one (bits ++ One ∷ []))) None (some_one_push bits One ∙ or_true (some_one bits))
+    cond_same (some_one (bits ++ One ∷ [])) (Some (greatest_one (bits ++ One ∷ []))) None (some_one_push bits One ∙ or-true (some_one bits))
     ∙ ap (λ (n : ℕ). Some n) (greatest_one_push bits)
 
 found_push_other : (bits : List Bit) (b : Bit) → same_bit One b ≡ false → found (bits ++ b ∷ []) ≡ found bits

@@ -1,7 +1,7 @@
 -- What gates answer, bit by bit, by what their attached inputs hold. Source: the library reference of
 -- Logisim-evolution, Gates Library (AND, OR, NAND, NOR, XOR, XNOR, Odd Parity, Even Parity); its user
 -- guide, Project options, for the option "Gate Output When Undefined".
-use Rattle.std.specs.Prelude.{◌≡◌, ℕ, ◌%◌, ◌==◌, Bool, true, false, ◌&&◌, ◌||◌, if◌then◌else◌, List, Option, None, Some, All, IfSome, is_none, map, replicate, length, slice_index_or, count_by}
+use Rattle.std.specs.Prelude.{◌≡◌, ℕ, ◌%◌, ◌==◌, Bool, true, false, ◌&&◌, ◌||◌, if◌then◌else◌, List, Option, All, IfSome, is_none, map, replicate, length, slice_index_or, count_by}
 use Rattle.std.specs.List.{list_all, list_any, filter_map, range_with_len}
 use Rattle.lg_value.specs.declared.bit.Bit.{Bit}
 use Rattle.lg_value.specs.declared.bit.Bit.TheVariants.{Zero, One, Unknown, Error}

@@ -2,7 +2,7 @@
 -- Demultiplexer, Decoder; the attributes Three-state, Include Enable and Disabled Output).
 use Rattle.std.specs.Prelude.{◌≡◌, ℕ, ◌==◌, if◌then◌else◌, List, [], ◌∷◌, All, replicate, length, slice_index_or}
 use Rattle.lg_value.specs.declared.bit.Bit.{Bit}
-use Rattle.lg_value.specs.declared.bit.Bit.TheVariants.{Zero, One, Unknown, Error}
+use Rattle.lg_value.specs.declared.bit.Bit.TheVariants.{Zero, Error}
 use Rattle.lg_value.specs.Word.{number_of}
 use Rattle.lg_gates.specs.Gate.{all_defined}
 

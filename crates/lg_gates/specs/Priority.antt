@@ -2,7 +2,7 @@
 -- (Priority Encoder).
 use Rattle.std.specs.Prelude.{◌≡◌, ◌≢◌, ℕ, ◌+◌, ◌<◌, Bool, not, ◌||◌, if◌then◌else◌, List, [], ◌∷◌, Some, replicate, slice_get}
 use Rattle.lg_value.specs.declared.bit.Bit.{Bit}
-use Rattle.lg_value.specs.declared.bit.Bit.TheVariants.{Zero, One, Unknown, Error}
+use Rattle.lg_value.specs.declared.bit.Bit.TheVariants.{Zero, One, Error}
 use Rattle.lg_value.specs.Bit.{same_bit}
 use Rattle.lg_value.specs.Word.{word_of_number}
 use Rattle.lg_gates.specs.Gate.{some_one, all_defined}

@@ -1,6 +1,6 @@
 -- What a bit selector answers. Source: the library reference of Logisim-evolution, Plexers Library
 -- (Bit Selector).
-use Rattle.std.specs.Prelude.{ℕ, ◌+◌, ◌*◌, if◌then◌else◌, List, map, replicate, slice_index_or}
+use Rattle.std.specs.Prelude.{ℕ, ◌*◌, if◌then◌else◌, List, map, replicate, slice_index_or}
 use Rattle.std.specs.List.{range_with_len}
 use Rattle.lg_value.specs.declared.bit.Bit.{Bit}
 use Rattle.lg_value.specs.declared.bit.Bit.TheVariants.{Zero, Error}

@@ -1,12 +1,12 @@
 -- Words that are changed bit by bit: NOT, Buffer, the controlled kinds, and the output forms of a gate.
 -- Source: the library reference of Logisim-evolution, Gates Library (NOT Gate, Buffer, Controlled
 -- Buffer, Controlled Inverter; the attribute Output Value).
-use Rattle.std.specs.Prelude.{ℕ, Bool, if◌then◌else◌, List, map, replicate, length}
+use Rattle.std.specs.Prelude.{Bool, if◌then◌else◌, List, map, replicate, length}
 use Rattle.lg_value.specs.declared.bit.Bit.{Bit}
 use Rattle.lg_value.specs.declared.bit.Bit.TheVariants.{Zero, One, Unknown, Error}
 use Rattle.lg_value.specs.Bit.{not_bit}
 use Rattle.lg_gates.specs.declared.outputs.OutForm.{OutForm}
-use Rattle.lg_gates.specs.declared.outputs.OutForm.TheVariants.{ZeroOne, ZeroFloat, FloatOne}
+use Rattle.lg_gates.specs.declared.outputs.OutForm.TheVariants.{ZeroFloat, FloatOne}
 
 -- NOT of a word
 abbrev pub not_word : List Bit → List Bit

@@ -1,8 +1,7 @@
-use Rattle.std.proofs.Common.{◌≡◌, ℕ, ◌+◌, ◌<◌, get_or, refl, arith, sym, ◌∙◌}
-use Rattle.std.specs.Option.{IfSome}
+use Rattle.std.proofs.Common.{get_or, refl, arith, sym, ◌∙◌}
 use Rattle.std.proofs.lemmas.Option.{IfSome_then}
 use Rattle.lg_value.specs.declared.bit.Bit.TheVariants.{Zero}
-use Rattle.lg_gates.proofs.PriorityLemmas.{found, found_more_one, found_more_other, not_one}
+use Rattle.lg_gates.proofs.PriorityLemmas.{found_more_one, found_more_other, not_one}
 use Rattle.lg_gates.proofs.encoder.greatest_one.Goals as goal
 use Rattle.lg_gates.proofs.encoder.greatest_one.Goals.{in-One, in_default}
 

@@ -1,7 +1,7 @@
-use Rattle.std.proofs.Common.{◌≡◌, List, sym, ap, ◌∙◌}
+use Rattle.std.proofs.Common.{List, sym, ap, ◌∙◌}
 use Rattle.lg_value.specs.declared.bit.Bit.{Bit}
 use Rattle.lg_value.specs.declared.bit.Bit.TheVariants.{Zero, One, Error}
-use Rattle.lg_gates.proofs.PriorityLemmas.{found, priority_of-undefined, priority_of-error, priority_of-disabled, priority_of-found, priority_of-none}
+use Rattle.lg_gates.proofs.PriorityLemmas.{priority_of-undefined, priority_of-error, priority_of-disabled, priority_of-found, priority_of-none}
 use Rattle.lg_gates.proofs.encoder.priority.Goals as goal
 
 pub returns-then-not-all_defined-clause-outputs : goal.returns-then-not-all_defined-clause-outputs

@@ -1,4 +1,3 @@
-use Rattle.std.proofs.Common.{◌≡◌}
 use Rattle.lg_gates.proofs.GateLemmas.{seen, some_one-ones}
 use Rattle.lg_gates.proofs.gates.gate_bit.Goals as goal
 

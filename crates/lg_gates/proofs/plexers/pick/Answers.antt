@@ -1,7 +1,6 @@
-use Rattle.std.proofs.Common.{◌≡◌, ℕ, ◌≤◌, List, [], get_or, length, arith, sym, ap, ◌∙◌}
+use Rattle.std.proofs.Common.{ℕ, [], get_or, length, arith, sym, ap, ◌∙◌}
 use Rattle.std.proofs.lemmas.List.{get_or_read}
 use Rattle.std.proofs.lemmas.Nat.{pow_pos}
-use Rattle.lg_value.specs.declared.bit.Bit.{Bit}
 use Rattle.lg_value.specs.declared.bit.Bit.TheVariants.{Error}
 use Rattle.std.specs.Prelude.{replicate}
 use Rattle.lg_gates.proofs.DefinedLemmas.{all_defined-answer}

@@ -1,4 +1,4 @@
-use Rattle.std.proofs.Common.{◌≡◌, ℕ, arith, sym, ap, ◌∙◌}
+use Rattle.std.proofs.Common.{ℕ, arith, sym, ap, ◌∙◌}
 use Rattle.std.specs.Prelude.{replicate}
 use Rattle.lg_value.specs.declared.bit.Bit.TheVariants.{Error}
 use Rattle.lg_gates.proofs.DefinedLemmas.{all_defined-answer}

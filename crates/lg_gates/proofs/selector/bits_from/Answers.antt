@@ -1,4 +1,4 @@
-use Rattle.std.proofs.Common.{◌≡◌, ◌-◌, ◌++◌, arith, ◌∙◌}
+use Rattle.std.proofs.Common.{◌-◌, arith, ◌∙◌}
 use Rattle.lg_gates.proofs.SelectorLemmas.{bits_from_past, bits_from_inside, bits_from_over}
 use Rattle.lg_gates.proofs.selector.bits_from.Goals as goal
 

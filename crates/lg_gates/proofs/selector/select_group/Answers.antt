@@ -1,4 +1,4 @@
-use Rattle.std.proofs.Common.{◌≡◌, ℕ, ◌*◌, ◌-◌, ◌^◌, min, sym, ap, ◌∙◌, arith}
+use Rattle.std.proofs.Common.{◌≡◌, ℕ, ◌*◌, ◌-◌, ◌^◌, min, sym, ap, ◌∙◌}
 use Rattle.lg_value.specs.Word.{number_of}
 use Rattle.lg_gates.proofs.DefinedLemmas.{all_defined-answer}
 use Rattle.lg_gates.proofs.PlexerLemmas.{group_word-undefined, group_word-defined}

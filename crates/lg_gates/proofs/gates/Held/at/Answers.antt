@@ -1,8 +1,8 @@
-use Rattle.std.proofs.Common.{◌≡◌, None, Some, get_or, arith, sym, ◌∙◌}
+use Rattle.std.proofs.Common.{◌≡◌, None, get_or, arith, sym, ◌∙◌}
 use Rattle.std.proofs.lemmas.List.{get_or_read}
 use Rattle.std.proofs.lemmas.Option.{get_or_from_slice_get}
 use Rattle.lg_value.specs.declared.bit.Bit.TheVariants.{Unknown}
-use Rattle.lg_gates.proofs.GateLemmas.{IsHeld, held_nil, held_none, held_zero, held_one, held_undefined}
+use Rattle.lg_gates.proofs.GateLemmas.{held_nil, held_none, held_zero, held_one, held_undefined}
 use Rattle.lg_gates.proofs.gates.Held.at.Goals as goal
 use Rattle.lg_gates.proofs.gates.Held.at.Goals.{in-Some+in-Zero, in-Some+in-One, in-Some+in-Unknown, in_default}
 
