@@ -115,3 +115,15 @@ pub gate_word-filled : (kind : GateKind) (width : ℕ) (inputs : List (Option (L
 gate_word-filled kind width inputs strict word served wide filled =
     fill_by_all (λ place. gate_bit kind (seen place inputs)) word width Unknown wide filled
     ∙ sym (gate_word-served kind width inputs strict served)
+
+-- what a gate answers to attached inputs where unattached ones are ignored
+abbrev pub loose_word : GateKind → ℕ → List (List Bit) → List Bit
+loose_word kind width [] = replicate width Error
+loose_word kind width (first ∷ others) = map (λ place. gate_bit kind (bits_at place (first ∷ others))) (range_with_len 0 width)
+
+-- without the "error" option the attached inputs alone count
+pub gate_word-loose : (kind : GateKind) (width : ℕ) (inputs : List (Option (List Bit))) → gate_word kind width inputs false ≡ loose_word kind width (attached inputs)
+unfolding gate_word
+gate_word-loose kind width [] = refl
+gate_word-loose kind width (None ∷ inputs) = gate_word-loose kind width inputs
+gate_word-loose kind width (Some word ∷ inputs) = refl

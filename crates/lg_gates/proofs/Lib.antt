@@ -5,4 +5,5 @@ pub mod GateLemmas
 pub mod PlexerLemmas
 pub mod PriorityLemmas
 pub mod SelectorLemmas
+pub mod Widths
 pub mod Written

@@ -6,9 +6,10 @@ ghost use Rattle.lg_value.specs.declared.bit.Bit.{Bit as Value};
 ghost use Rattle.lg_value.specs.Bit.{is_defined_bit};
 ghost use Rattle.lg_value.specs.Word.{IsDefined, number_of, word_of_number};
 ghost use Rattle.lg_gates.specs.declared.gates.GateKind.{GateKind as Kind};
+ghost use Rattle.lg_gates.specs.declared.outputs.OutForm.{OutForm as Form};
 ghost use Rattle.lg_gates.specs.Gate.{some_one, attached, lacks_inputs, gate_word, HaveWidth, CarryDefined};
-ghost use Rattle.lg_gates.specs.Shape.{not_word, buffer_word, shape_word};
-ghost use Rattle.lg_gates.specs.Plexer.{pick_word, spread_word, enabled_word};
+ghost use Rattle.lg_gates.specs.Shape.{not_word, buffer_word, controlled_word, shape_word};
+ghost use Rattle.lg_gates.specs.Plexer.{first_width, HaveOneWidth, pick_word, spread_word, enabled_word};
 ghost use Rattle.lg_gates.specs.Priority.{greatest_one, IsGreatestOne, priority_of};
 ghost use Rattle.lg_gates.specs.Selector.{group_word};
 
@@ -66,6 +67,29 @@ pub fn greatest_one_is_greatest()
     ensures address { (inputs : List Value) (width : ℕ)
         → some_one inputs ≡ true → length inputs ≡ 2 ^ width
         → number_of (word_of_number width (greatest_one inputs)) ≡ greatest_one inputs }
+{}
+
+/// A law: what each gate and plexer answers has the width that its inputs give, defined or not.
+pub fn outputs_have_their_width()
+    ensures gate { (kind : Kind) (width : ℕ) (inputs : List (Option (List Value))) (strict : Bool)
+        → length (gate_word kind width inputs strict) ≡ width }
+    ensures not { (word : List Value) → length (not_word word) ≡ length word }
+    ensures buffer { (word : List Value) → length (buffer_word word) ≡ length word }
+    ensures controlled { (invert : Bool) (input : List Value) (control : Value)
+        → length (controlled_word invert input control) ≡ length input }
+    ensures shape { (form : Form) (word : List Value)
+        → length (shape_word form word) ≡ length word }
+    ensures pick { (select : List Value) (items : List (List Value))
+        → length items ≡ 2 ^ length select → HaveOneWidth items
+        → length (pick_word select items) ≡ first_width items }
+    ensures spread { (select input : List Value) (place : ℕ) (off : Value)
+        → length (spread_word select input place off) ≡ length input }
+    ensures enabled { (enable : Value) (value : List Value) (off : Value)
+        → length (enabled_word enable value off) ≡ length value }
+    ensures address { (inputs : List Value) (enable : Value) (width : ℕ) (off : Value)
+        → length (priority_of inputs enable width off).0 ≡ width }
+    ensures group { (input select : List Value) (group : ℕ)
+        → length (group_word input select group) ≡ group }
 {}
 
 /// A law: defined inputs give defined outputs, but for a gate that lacks inputs, for an output form in

@@ -14,7 +14,7 @@ pub use crate::encoder::priority;
 pub use crate::gates::{GateKind, gate};
 pub use crate::law::{
     defined_gives_defined, greatest_one_is_greatest, inverted_kinds_invert, one_and_odd_agree,
-    order_of_inputs_is_free,
+    order_of_inputs_is_free, outputs_have_their_width,
 };
 pub use crate::outputs::{OutForm, buffer, controlled, not, shape};
 pub use crate::plexers::{enabled, pick, spread};
