@@ -1,0 +1,5 @@
+pub mod Gate
+pub mod Plexer
+pub mod Priority
+pub mod Selector
+pub mod Shape
