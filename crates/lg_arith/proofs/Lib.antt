@@ -1,7 +1,13 @@
 pub mod CountLemmas
+pub mod DefinedLemmas
+pub mod NumberLemmas
 pub mod OperandLemmas
 pub mod OrderLemmas
 pub mod ProductLemmas
 pub mod QuotientLemmas
 pub mod ShiftLemmas
+pub mod ShiftNumbers
 pub mod SumLemmas
+pub mod TotalOrder
+pub mod UndoneLemmas
+pub mod WholeLemmas

@@ -14,7 +14,7 @@ use Rattle.lg_value.specs.Word.{IsDefined, number_of, word_of_number}
 use Rattle.lg_value.proofs.WordLemmas.{length-word_of_number, IsDefined-word_of_number, number_of-word_of_number, word_of_number-number_of}
 use Rattle.lg_arith.specs.Operands.{is_defined_word, are_defined, counted_bit, counted_word, word_output, bit_output, bit_of_test}
 
-digit_from_test : (b : Bit) → is_defined_bit b ≡ true → (b ≡ Zero) ⊎ (b ≡ One)
+pub digit_from_test : (b : Bit) → is_defined_bit b ≡ true → (b ≡ Zero) ⊎ (b ≡ One)
 digit_from_test Zero h = inl refl
 digit_from_test One h = inr refl
 digit_from_test Unknown h = absurd (cc h)

@@ -1,8 +1,8 @@
 -- What the parts of the arithmetic library read and what they answer to bits that are no digits, after the
 -- Logisim-evolution library reference, "Arithmetic library": a carry, a borrow, a third operand and an upper half
 -- count as 0 where nothing drives them.
-use Rattle.std.specs.Prelude.{ℕ, Bool, ◌-◌, if◌then◌else◌, List, length, get_or, map, replicate}
-use Rattle.std.specs.List.{list_all}
+use Rattle.std.specs.Prelude.{◌≢◌, ℕ, Bool, ◌-◌, if◌then◌else◌, List, length, get_or, map, replicate}
+use Rattle.std.specs.List.{All, list_all}
 use Rattle.lg_value.specs.declared.bit.Bit.{Bit}
 use Rattle.lg_value.specs.declared.bit.Bit.TheVariants.{Zero, One, Unknown, Error}
 use Rattle.lg_value.specs.Bit.{is_defined_bit}
@@ -24,6 +24,10 @@ counted_bit bit = bit
 -- an operand that may float, as it counts
 abbrev pub counted_word : List Bit → List Bit
 counted_word word = map counted_bit word
+
+-- no bit of an operand that may float is an error
+abbrev pub HasNoError : List Bit → Type 0
+HasNoError word = All (λ bit. bit ≢ Error) word
 
 -- an output that is a word: the low bits of a number where the operands are defined, and otherwise an error in
 -- every bit

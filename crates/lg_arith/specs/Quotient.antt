@@ -5,8 +5,8 @@ use Rattle.lg_value.specs.Word.{number_of}
 use Rattle.lg_arith.specs.Operands.{counted_word, word_output}
 
 -- what a divider reads: the dividend's lower half, the divisor, and the dividend's upper half, which may float
-abbrev pub terms : List Bit → List Bit → List Bit → List (List Bit)
-terms a b upper = a ∷ b ∷ counted_word upper ∷ []
+abbrev pub quotient_operands : List Bit → List Bit → List Bit → List (List Bit)
+quotient_operands a b upper = a ∷ b ∷ counted_word upper ∷ []
 
 -- the whole dividend: the upper half above the lower one
 abbrev pub whole_dividend : List Bit → List Bit → ℕ
@@ -18,8 +18,8 @@ divisor_of b = max (number_of b) 1
 
 -- the quotient modulo two to the width
 unfoldable pub quotient_of : List Bit → List Bit → List Bit → List Bit
-quotient_of a b upper = word_output (terms a b upper) (length a) (whole_dividend a upper / divisor_of b)
+quotient_of a b upper = word_output (quotient_operands a b upper) (length a) (whole_dividend a upper / divisor_of b)
 
 -- the remainder
 unfoldable pub remainder_of : List Bit → List Bit → List Bit → List Bit
-remainder_of a b upper = word_output (terms a b upper) (length a) (whole_dividend a upper % divisor_of b)
+remainder_of a b upper = word_output (quotient_operands a b upper) (length a) (whole_dividend a upper % divisor_of b)
