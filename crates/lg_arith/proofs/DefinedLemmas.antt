@@ -1,7 +1,7 @@
 -- Defined operands give defined outputs.
-use Rattle.std.proofs.Common.{◌≡◌, ℕ, ◌-◌, Bool, true, false, cond, ◌⊎◌, List, [], ◌∷◌, ◌++◌, length, get_or, take, drop, replicate, map, refl, sym, inl, inr, arith}
+use Rattle.std.proofs.Common.{◌≡◌, ℕ, ◌-◌, Bool, true, false, ◌⊎◌, List, [], ◌∷◌, ◌++◌, length, get_or, take, drop, replicate, refl, inl, inr, arith}
 use Rattle.std.specs.Prelude.{◌≢◌, int_lt, ◌%◌}
-use Rattle.std.specs.List.{All, list_all}
+use Rattle.std.specs.List.{All}
 use Rattle.std.proofs.lemmas.List.Elements.{All-nil, All-cons, All-append, All-take, All-drop, All-replicate, All-map}
 use Rattle.std.proofs.lemmas.List.Sums.{list_all-from_AllPass}
 use Rattle.lg_value.specs.declared.bit.Bit.{Bit}
@@ -12,12 +12,12 @@ use Rattle.lg_value.proofs.WordLemmas.{IsDefined-word_of_number}
 use Rattle.lg_arith.specs.declared.extension.Extend.{Extend}
 use Rattle.lg_arith.specs.declared.shifter.ShiftKind.{ShiftKind}
 use Rattle.lg_arith.specs.declared.shifter.ShiftKind.TheVariants.{Left, Right, Arith, RollLeft, RollRight}
-use Rattle.lg_arith.specs.Count.{count_of, least_width, greatest_count, ones_of}
+use Rattle.lg_arith.specs.Count.{count_of}
 use Rattle.lg_arith.specs.Extend.{added_bit, extended}
 use Rattle.lg_arith.specs.Operands.{HasNoError, is_defined_word, are_defined, counted_bit, counted_word, bit_of_test, top_bit}
 use Rattle.lg_arith.specs.Order.{compared_number, greater_of, equal_of, less_of}
-use Rattle.lg_arith.specs.Product.{product_operands, low_product_of, high_product_of}
-use Rattle.lg_arith.specs.Quotient.{quotient_operands, quotient_of, remainder_of}
+use Rattle.lg_arith.specs.Product.{low_product_of, high_product_of}
+use Rattle.lg_arith.specs.Quotient.{quotient_of, remainder_of}
 use Rattle.lg_arith.specs.Shift.{moved, shift_of, turned}
 use Rattle.lg_arith.specs.Sum.{sum_operands, sum_of, carry_of, difference_of, borrow_of, negation_of}
 use Rattle.lg_arith.proofs.OperandLemmas.{Decides-is_defined_word, digit_from_test, are_defined_nil, are_defined_cons}

@@ -1,5 +1,6 @@
 pub mod CountLemmas
 pub mod DefinedLemmas
+pub mod ExtendLemmas
 pub mod NumberLemmas
 pub mod OperandLemmas
 pub mod OrderLemmas

@@ -1,16 +1,15 @@
 -- Operands, and the outputs that their numbers give.
-use Rattle.std.proofs.Common.{◌≡◌, ℕ, zero, suc, ◌+◌, ◌*◌, ◌/◌, ◌%◌, ◌^◌, ◌-◌, ◌<◌, ◌≤◌, Bool, true, false, cond, ◌⊎◌, List, [], ◌∷◌, ◌++◌, length, get_or, map, replicate, take, drop, sym, refl, ap, ◌∙◌, inl, inr, arith, length-take-le, length-append, length-drop, length-take, append_assoc}
+use Rattle.std.proofs.Common.{◌≡◌, ℕ, ◌+◌, ◌%◌, ◌^◌, ◌-◌, ◌<◌, ◌≤◌, Bool, true, false, cond, ◌⊎◌, List, [], ◌∷◌, ◌++◌, length, get_or, replicate, take, drop, sym, refl, ap, ◌∙◌, inl, inr, arith, length-take-le, length-append, append_assoc}
 use Rattle.std.proofs.lemmas.List.{drop_more, map_more, set_at, length-map, length-replicate, take-append-drop}
 use Rattle.std.proofs.Math.ListN.{set}
-use Rattle.std.specs.Prelude.{◌&&◌, not}
+use Rattle.std.specs.Prelude.{◌&&◌}
 use Rattle.std.specs.Bool.{Decides}
-use Rattle.std.specs.List.{All, AllPass, list_all}
 use Rattle.std.proofs.Math.Pow.{mod-mod-pow}
 use Rattle.std.proofs.lemmas.List.Sums.{AllPass-from_list_all, list_all-from_AllPass}
 use Rattle.lg_value.specs.declared.bit.Bit.{Bit}
 use Rattle.lg_value.specs.declared.bit.Bit.TheVariants.{Zero, One, Unknown, Error}
 use Rattle.lg_value.specs.Bit.{is_defined_bit}
-use Rattle.lg_value.specs.Word.{IsDefined, number_of, word_of_number}
+use Rattle.lg_value.specs.Word.{IsDefined, word_of_number}
 use Rattle.lg_value.proofs.WordLemmas.{length-word_of_number, IsDefined-word_of_number, number_of-word_of_number, word_of_number-number_of}
 use Rattle.lg_arith.specs.Operands.{is_defined_word, are_defined, counted_bit, counted_word, word_output, bit_output, bit_of_test}
 

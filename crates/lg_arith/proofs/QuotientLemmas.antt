@@ -1,5 +1,5 @@
 -- Quotients and remainders of operands that are not defined, and of those that are.
-use Rattle.std.proofs.Common.{◌≡◌, ℕ, ◌+◌, ◌*◌, ◌/◌, ◌%◌, ◌^◌, ◌<◌, ◌≤◌, true, false, List, length, replicate, arith}
+use Rattle.std.proofs.Common.{◌≡◌, ◌/◌, ◌%◌, true, false, List, length, replicate}
 use Rattle.lg_value.specs.declared.bit.Bit.{Bit}
 use Rattle.lg_value.specs.declared.bit.Bit.TheVariants.{Error}
 use Rattle.lg_value.specs.Word.{word_of_number}

@@ -1,12 +1,13 @@
 -- Bits that move in a word.
-use Rattle.std.proofs.Common.{◌≡◌, ℕ, ◌+◌, ◌-◌, ◌<◌, ◌≤◌, true, false, List, [], ◌∷◌, ◌++◌, length, take, drop, replicate, sym, ap, ◌∙◌, refl, arith}
+use Rattle.std.proofs.Common.{◌≡◌, ℕ, ◌+◌, ◌-◌, ◌%◌, ◌≤◌, true, false, cond, List, [], ◌∷◌, ◌++◌, length, length-take-le, length-append, length-take, take, drop, replicate, sym, ap, ◌∙◌, refl, arith}
 use Rattle.std.proofs.Math.Seq.{take-append-add}
 use Rattle.std.proofs.lemmas.List.{take-append-le, take-replicate, take_rest, length-replicate, length-drop, drop_all}
 use Rattle.lg_value.specs.declared.bit.Bit.{Bit}
 use Rattle.lg_value.specs.declared.bit.Bit.TheVariants.{Zero, Error}
 use Rattle.lg_value.specs.Word.{number_of}
 use Rattle.lg_arith.specs.declared.shifter.ShiftKind.{ShiftKind}
-use Rattle.lg_arith.specs.Operands.{are_defined}
+use Rattle.lg_arith.specs.declared.shifter.ShiftKind.TheVariants.{Left, Right, Arith, RollLeft, RollRight}
+use Rattle.lg_arith.specs.Operands.{are_defined, top_bit}
 use Rattle.lg_arith.specs.Shift.{moved_left, moved_right, turned, moved, shift_of}
 
 take-append-past : (n : ℕ) (low high : List Bit) → length low ≤ n → take n (low ++ high) ≡ low ++ take (n - length low) high
@@ -47,3 +48,23 @@ shift_undefined kind a distance h = rw h refl
 pub shift_defined : (kind : ShiftKind) (a distance : List Bit) → are_defined (a ∷ distance ∷ []) ≡ true → shift_of kind a distance ≡ moved kind a (number_of distance)
 unfolding shift_of
 shift_defined kind a distance h = rw h refl
+
+length-turned : (a : List Bit) (place : ℕ) → length (turned a place) ≡ length a
+length-turned a place = simp (length-append, length-take, length-drop) (omega arith)
+
+length-moved : (kind : ShiftKind) (a : List Bit) (distance : ℕ) → length (moved kind a distance) ≡ length a
+length-moved Left a distance = length-take-le (length a) (replicate distance Zero ++ a) (simp length-append (omega arith))
+length-moved Right a distance =
+    length-take-le (length a) (drop distance a ++ replicate (length a) Zero) (simp (length-append, length-replicate) (omega arith))
+length-moved Arith a distance =
+    length-take-le (length a) (drop distance a ++ replicate (length a) (top_bit a)) (simp (length-append, length-replicate) (omega arith))
+length-moved RollLeft a distance = length-turned a (length a - distance % length a)
+length-moved RollRight a distance = length-turned a (distance % length a)
+
+pub length-shift_of : (kind : ShiftKind) (a distance : List Bit) → length (shift_of kind a distance) ≡ length a
+unfolding shift_of
+length-shift_of kind a distance =
+    elim (are_defined (a ∷ distance ∷ [])) as (λ b. length (cond b (moved kind a (number_of distance)) (replicate (length a) Error)) ≡ length a) [
+      | true ↦ length-moved kind a (number_of distance)
+      | false ↦ length-replicate (length a) Error
+    ]

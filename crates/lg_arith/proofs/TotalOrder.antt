@@ -1,5 +1,5 @@
 -- Of two defined words exactly one is greater, or they are equal.
-use Rattle.std.proofs.Common.{◌≡◌, ℕ, zero, suc, ◌+◌, ◌*◌, ◌^◌, ◌<◌, ◌≤◌, Bool, true, false, ltb, ◌⊎◌, List, [], ◌∷◌, length, sym, refl, ap, ◌∙◌, inl, inr, arith}
+use Rattle.std.proofs.Common.{◌≡◌, ℕ, zero, suc, ◌*◌, ◌^◌, ◌<◌, ◌≤◌, Bool, true, false, ◌⊎◌, List, [], ◌∷◌, length, sym, refl, ap, ◌∙◌, inl, inr, arith}
 use Rattle.std.specs.Prelude.{◌≢◌, ℤ, pos, negsuc, ◌-ℤ◌, int_lt}
 use Rattle.std.proofs.lemmas.Bool.{cases_order, lt-ltb, le-ltb}
 use Rattle.std.proofs.lemmas.Int.{ints}
@@ -8,7 +8,7 @@ use Rattle.lg_value.specs.Bit.{digit_of}
 use Rattle.lg_value.specs.Word.{IsDefined, number_of, word_of_number, same_word}
 use Rattle.lg_value.proofs.WordLemmas.{number_of-lt, word_of_number-number_of, Decides-same_word}
 use Rattle.lg_arith.specs.Count.{ones_in}
-use Rattle.lg_arith.specs.Operands.{bit_of_test, top_bit}
+use Rattle.lg_arith.specs.Operands.{top_bit}
 use Rattle.lg_arith.specs.Order.{signed_number_of, compared_number, greater_of, equal_of, less_of}
 use Rattle.lg_arith.proofs.DefinedLemmas.{defined_two}
 use Rattle.lg_arith.proofs.OrderLemmas.{greater_defined, equal_defined, less_defined}

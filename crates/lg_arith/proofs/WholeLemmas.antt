@@ -1,5 +1,5 @@
 -- The two outputs of a part make up its whole result.
-use Rattle.std.proofs.Common.{◌≡◌, ℕ, zero, suc, ◌+◌, ◌-◌, ◌*◌, ◌/◌, ◌%◌, ◌^◌, ◌<◌, ◌≤◌, max, Bool, true, false, leb, ltb, List, [], ◌∷◌, length, map, sym, refl, ap, ◌∙◌, arith, inl, inr}
+use Rattle.std.proofs.Common.{◌≡◌, ℕ, ◌+◌, ◌-◌, ◌*◌, ◌/◌, ◌%◌, ◌^◌, ◌<◌, ◌≤◌, leb, ltb, List, length, ap, ◌∙◌, arith, inl, inr}
 use Rattle.std.specs.Prelude.{◌≢◌}
 use Rattle.std.proofs.Math.Nat.{mod-eq_of_lt, add-mul-mod_self_left, mul_comm}
 use Rattle.std.proofs.lemmas.Bool.{cases_lt, lt-ltb, le-ltb}
@@ -9,7 +9,7 @@ use Rattle.std.proofs.lemmas.List.{length-map}
 use Rattle.lg_value.specs.declared.bit.Bit.{Bit}
 use Rattle.lg_value.specs.declared.bit.Bit.TheVariants.{Zero, One, Unknown, Error}
 use Rattle.lg_value.specs.Bit.{digit_of}
-use Rattle.lg_value.specs.Word.{IsDefined, number_of, word_of_number}
+use Rattle.lg_value.specs.Word.{IsDefined, number_of}
 use Rattle.lg_value.proofs.WordLemmas.{number_of-lt, number_of-word_of_number}
 use Rattle.lg_arith.specs.Operands.{HasNoError, counted_bit, counted_word, bit_of_test}
 use Rattle.lg_arith.specs.Product.{whole_product, low_product_of, high_product_of}

@@ -1,5 +1,5 @@
 -- The count of ones, after the Logisim-evolution library reference, "Bit Adder".
-use Rattle.std.specs.Prelude.{ℕ, ◌+◌, ◌^◌, nat_lt, List, length, count_by, sum_by}
+use Rattle.std.specs.Prelude.{ℕ, ◌^◌, nat_lt, List, length, count_by, sum_by}
 use Rattle.std.specs.List.{position_or_len, range_with_len}
 use Rattle.lg_value.specs.declared.bit.Bit.{Bit}
 use Rattle.lg_value.specs.declared.bit.Bit.TheVariants.{One}

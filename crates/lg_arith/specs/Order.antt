@@ -1,5 +1,5 @@
 -- The order of two words, after the Logisim-evolution library reference, "Comparator".
-use Rattle.std.specs.Prelude.{ℕ, Bool, ◌*◌, ◌^◌, if◌then◌else◌, ℤ, pos, ◌-ℤ◌, int_lt, List, [], ◌∷◌, length}
+use Rattle.std.specs.Prelude.{Bool, ◌*◌, ◌^◌, if◌then◌else◌, ℤ, pos, ◌-ℤ◌, int_lt, List, [], ◌∷◌, length}
 use Rattle.lg_value.specs.declared.bit.Bit.{Bit}
 use Rattle.lg_value.specs.Bit.{digit_of}
 use Rattle.lg_value.specs.Word.{number_of, same_word}

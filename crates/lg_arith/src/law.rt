@@ -1,12 +1,12 @@
 //! Laws of arithmetic, of all words that are defined.
 
 ghost use Rattle.std.specs.Prelude.{◌≡◌, ◌≢◌, ℕ, ◌+◌, ◌-◌, ◌*◌, ◌/◌, ◌%◌, ◌^◌, ◌<◌, ◌≤◌, Bool, true, List, [], ◌∷◌, length, replicate, All};
-ghost use Rattle.lg_value.specs.declared.bit.Bit.{Bit as Value};
-ghost use Rattle.lg_value.specs.declared.bit.Bit.TheVariants.{Zero as Low, One as High, Error as Wrong};
+ghost use Rattle.lg_value.specs.declared.bit.Bit.{Bit};
+ghost use Rattle.lg_value.specs.declared.bit.Bit.TheVariants.{Zero, One, Error};
 ghost use Rattle.lg_value.specs.Bit.{is_defined_bit, digit_of};
 ghost use Rattle.lg_value.specs.Word.{IsDefined, number_of};
-ghost use Rattle.lg_arith.specs.declared.extension.Extend.{Extend as Extension};
-ghost use Rattle.lg_arith.specs.declared.shifter.ShiftKind.{ShiftKind as Kind};
+ghost use Rattle.lg_arith.specs.declared.extension.Extend.{Extend};
+ghost use Rattle.lg_arith.specs.declared.shifter.ShiftKind.{ShiftKind};
 ghost use Rattle.lg_arith.specs.Count.{ones_in, count_of, least_width};
 ghost use Rattle.lg_arith.specs.Extend.{added_bit, extended};
 ghost use Rattle.lg_arith.specs.Operands.{HasNoError};
@@ -18,79 +18,79 @@ ghost use Rattle.lg_arith.specs.Sum.{whole_sum, taken_away, sum_of, carry_of, di
 
 /// A law: defined operands give defined outputs. An operand that may float needs only have no error.
 pub fn defined_in_defined_out()
-    ensures add { (a b : List Value) (carry : Value) → IsDefined a → IsDefined b → carry ≢ Wrong
+    ensures add { (a b : List Bit) (carry : Bit) → IsDefined a → IsDefined b → carry ≢ Error
         → IsDefined (sum_of a b carry) × (is_defined_bit (carry_of a b carry) ≡ true) }
-    ensures sub { (a b : List Value) (borrow : Value) → IsDefined a → IsDefined b → borrow ≢ Wrong
+    ensures sub { (a b : List Bit) (borrow : Bit) → IsDefined a → IsDefined b → borrow ≢ Error
         → IsDefined (difference_of a b borrow) × (is_defined_bit (borrow_of a b borrow) ≡ true) }
-    ensures negate { (a : List Value) → IsDefined a → IsDefined (negation_of a) }
-    ensures mul { (a b c : List Value) → IsDefined a → IsDefined b → HasNoError c
+    ensures negate { (a : List Bit) → IsDefined a → IsDefined (negation_of a) }
+    ensures mul { (a b c : List Bit) → IsDefined a → IsDefined b → HasNoError c
         → IsDefined (low_product_of a b c) × IsDefined (high_product_of a b c) }
-    ensures div { (a b upper : List Value) → IsDefined a → IsDefined b → HasNoError upper
+    ensures div { (a b upper : List Bit) → IsDefined a → IsDefined b → HasNoError upper
         → IsDefined (quotient_of a b upper) × IsDefined (remainder_of a b upper) }
-    ensures compare { (a b : List Value) (signed : Bool) → IsDefined a → IsDefined b
+    ensures compare { (a b : List Bit) (signed : Bool) → IsDefined a → IsDefined b
         → IsDefined (greater_of a b signed ∷ equal_of a b ∷ less_of a b signed ∷ []) }
-    ensures shift { (kind : Kind) (a distance : List Value) → IsDefined a → IsDefined distance
+    ensures shift { (kind : ShiftKind) (a distance : List Bit) → IsDefined a → IsDefined distance
         → IsDefined (shift_of kind a distance) }
-    ensures count_ones { (inputs : List (List Value)) → All IsDefined inputs → IsDefined (count_of inputs) }
-    ensures extend { (a : List Value) (width : ℕ) (how : Extension) → IsDefined a
+    ensures count_ones { (inputs : List (List Bit)) → All IsDefined inputs → IsDefined (count_of inputs) }
+    ensures extend { (a : List Bit) (width : ℕ) (how : Extend) → IsDefined a
         → is_defined_bit (added_bit how a) ≡ true → IsDefined (extended a width how) }
 {}
 
 /// A law: the two outputs of an adder, a subtractor, a multiplier or a divider make up the whole
 /// result.
 pub fn outputs_make_the_whole()
-    ensures sum { (a b : List Value) (carry : Value)
-        → length b ≡ length a → IsDefined a → IsDefined b → carry ≢ Wrong
+    ensures sum { (a b : List Bit) (carry : Bit)
+        → length b ≡ length a → IsDefined a → IsDefined b → carry ≢ Error
         → number_of (sum_of a b carry) + 2 ^ length a * digit_of (carry_of a b carry)
         ≡ whole_sum a b carry }
-    ensures difference { (a b : List Value) (borrow : Value)
-        → length b ≡ length a → IsDefined a → IsDefined b → borrow ≢ Wrong
+    ensures difference { (a b : List Bit) (borrow : Bit)
+        → length b ≡ length a → IsDefined a → IsDefined b → borrow ≢ Error
         → number_of (difference_of a b borrow) + taken_away b borrow
         ≡ number_of a + 2 ^ length a * digit_of (borrow_of a b borrow) }
-    ensures product { (a b c : List Value)
+    ensures product { (a b c : List Bit)
         → length b ≡ length a → length c ≡ length a → IsDefined a → IsDefined b → HasNoError c
         → number_of (low_product_of a b c) + 2 ^ length a * number_of (high_product_of a b c)
         ≡ whole_product a b c }
     // Where the quotient fits the width.
-    ensures quotient { (a b upper : List Value)
+    ensures quotient { (a b upper : List Bit)
         → length b ≡ length a → IsDefined a → IsDefined b → HasNoError upper
         → whole_dividend a upper < 2 ^ length a * divisor_of b
         → number_of (quotient_of a b upper) * divisor_of b + number_of (remainder_of a b upper)
         ≡ whole_dividend a upper }
-    ensures remainder { (a b upper : List Value)
+    ensures remainder { (a b upper : List Bit)
         → length b ≡ length a → IsDefined a → IsDefined b → HasNoError upper
         → number_of (remainder_of a b upper) < divisor_of b }
 {}
 
 /// A law: subtraction undoes addition, and addition subtraction. A word and its negation sum to 0.
 pub fn sub_undoes_add()
-    ensures difference { (a b : List Value) (carry : Value)
-        → length b ≡ length a → IsDefined a → IsDefined b → carry ≢ Wrong
+    ensures difference { (a b : List Bit) (carry : Bit)
+        → length b ≡ length a → IsDefined a → IsDefined b → carry ≢ Error
         → difference_of (sum_of a b carry) b carry ≡ a }
-    ensures sum { (a b : List Value) (borrow : Value)
-        → length b ≡ length a → IsDefined a → IsDefined b → borrow ≢ Wrong
+    ensures sum { (a b : List Bit) (borrow : Bit)
+        → length b ≡ length a → IsDefined a → IsDefined b → borrow ≢ Error
         → sum_of (difference_of a b borrow) b borrow ≡ a }
-    ensures negation { (a : List Value)
-        → IsDefined a → sum_of a (negation_of a) Low ≡ replicate (length a) Low }
+    ensures negation { (a : List Bit)
+        → IsDefined a → sum_of a (negation_of a) Zero ≡ replicate (length a) Zero }
 {}
 
 /// A law: of two defined words exactly one is greater, or they are equal.
 pub fn one_order_holds()
-    ensures { (a b : List Value) (signed : Bool)
+    ensures { (a b : List Bit) (signed : Bool)
         → length b ≡ length a → IsDefined a → IsDefined b
         → ones_in (greater_of a b signed ∷ equal_of a b ∷ less_of a b signed ∷ []) ≡ 1 }
 {}
 
 /// A law: what shifts and rolls do to the number of a word.
 pub fn shifts_are_numbers()
-    ensures left { (a : List Value) (distance : ℕ)
+    ensures left { (a : List Bit) (distance : ℕ)
         → number_of (moved_left a distance) ≡ number_of a * 2 ^ distance % 2 ^ length a }
-    ensures right { (a : List Value) (distance : ℕ)
-        → number_of (moved_right Low a distance) ≡ number_of a / 2 ^ distance }
-    ensures ones_above { (a : List Value) (distance : ℕ)
-        → number_of (moved_right High a distance) + 2 ^ (length a - distance)
+    ensures right { (a : List Bit) (distance : ℕ)
+        → number_of (moved_right Zero a distance) ≡ number_of a / 2 ^ distance }
+    ensures ones_above { (a : List Bit) (distance : ℕ)
+        → number_of (moved_right One a distance) + 2 ^ (length a - distance)
         ≡ number_of a / 2 ^ distance + 2 ^ length a }
-    ensures roll { (a : List Value) (place : ℕ) → place ≤ length a
+    ensures roll { (a : List Bit) (place : ℕ) → place ≤ length a
         → number_of (turned a place)
         ≡ number_of a / 2 ^ place + 2 ^ (length a - place) * (number_of a % 2 ^ place) }
 {}

@@ -1,7 +1,6 @@
 //! Shifts and rolls.
 
 ghost use Rattle.std.specs.Prelude.{◌≡◌, ◌≤◌, length};
-ghost use Rattle.lg_value.specs.declared.bit.Bit.{Bit as Value};
 ghost use Rattle.lg_arith.specs.Shift.{moved_left, moved_right, turned, shift_of};
 
 use crate::operand::{are_defined, top_bit};

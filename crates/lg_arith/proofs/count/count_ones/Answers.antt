@@ -1,8 +1,6 @@
-use Rattle.std.proofs.Common.{◌≡◌, take, length, arith, refl, true, false, ap}
+use Rattle.std.proofs.Common.{◌≡◌, arith, true, false}
 use Rattle.std.proofs.lemmas.List.{take_all}
-use Rattle.lg_value.specs.Word.{IsWidth}
 use Rattle.lg_arith.specs.Operands.{are_defined}
-use Rattle.lg_arith.specs.Count.{least_width}
 use Rattle.lg_arith.proofs.CountLemmas.{IsWidth-least_width, count_undefined, count_defined}
 use Rattle.lg_arith.proofs.count.count_ones.Goals as goal
 

@@ -1,9 +1,8 @@
-use Rattle.std.proofs.Common.{◌≡◌, ◌+◌, take, get_or, arith, rules, sym}
+use Rattle.std.proofs.Common.{◌≡◌, get_or, arith, rules, sym}
 use Rattle.std.proofs.lemmas.Option.{get_or_from_slice_get}
 use denote.Enum.Bare.{same_true}
 use Rattle.lg_value.specs.contracts.bit.Bit.{the_type}
 use Rattle.lg_value.specs.declared.bit.Bit.TheVariants.{Zero, One}
-use Rattle.lg_arith.specs.Count.{ones_in}
 use Rattle.lg_arith.proofs.CountLemmas.{ones_more_yes, ones_more_no}
 use Rattle.lg_arith.proofs.count.ones_in.Goals.{then-eq, else-eq}
 use Rattle.lg_arith.proofs.count.ones_in.Goals as goal

@@ -1,4 +1,4 @@
-use Rattle.std.proofs.Common.{◌≡◌, length, get_or, arith, ap}
+use Rattle.std.proofs.Common.{◌≡◌, length, get_or, arith}
 use Rattle.std.proofs.lemmas.Option.{get_or_from_slice_get}
 use Rattle.lg_value.specs.declared.bit.Bit.TheVariants.{Zero}
 use Rattle.lg_arith.proofs.OperandLemmas.{counted_more, length-counted}

@@ -1,4 +1,3 @@
-use Rattle.std.proofs.Common.{◌≡◌}
 use Rattle.std.proofs.lemmas.Bool.Decides.{same_from_decides}
 use Rattle.lg_arith.specs.Operands.{is_defined_word}
 use Rattle.lg_arith.proofs.OperandLemmas.{Decides-is_defined_word}

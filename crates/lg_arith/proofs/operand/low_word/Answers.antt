@@ -1,4 +1,4 @@
-use Rattle.std.proofs.Common.{◌≡◌, arith, ◌∙◌}
+use Rattle.std.proofs.Common.{arith, ◌∙◌}
 use Rattle.lg_arith.proofs.OperandLemmas.{word_of_number-mod}
 use Rattle.lg_arith.proofs.operand.low_word.Goals as goal
 

@@ -1,5 +1,5 @@
-use Rattle.std.proofs.Common.{◌≡◌, ◌*◌, ◌%◌, ◌^◌, ◌≤◌, rules, arith, sym, refl, Bool, true, false}
-use Rattle.std.specs.Prelude.{◌≢◌, ℤ, pos}
+use Rattle.std.proofs.Common.{◌≡◌, ◌^◌, ◌≤◌, rules, arith, sym, refl, true, false}
+use Rattle.std.specs.Prelude.{◌≢◌, pos}
 use Rattle.std.proofs.Math.Pow.{pow_mono}
 use Rattle.std.proofs.lemmas.Nat.{one_shl}
 use denote.Enum.Bare.{same_true, sameb}

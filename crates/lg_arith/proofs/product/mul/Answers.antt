@@ -1,4 +1,4 @@
-use Rattle.std.proofs.Common.{◌≡◌, ◌%◌, ◌*◌, ◌^◌, true, false, arith}
+use Rattle.std.proofs.Common.{◌≡◌, true, false}
 use Rattle.lg_arith.specs.Operands.{are_defined}
 use Rattle.lg_arith.specs.Product.{product_operands}
 use Rattle.lg_arith.proofs.OperandLemmas.{three_defined}

@@ -1,4 +1,4 @@
-use Rattle.std.proofs.Common.{◌≡◌, ◌%◌, ◌*◌, ◌^◌, true, false, arith}
+use Rattle.std.proofs.Common.{◌≡◌, true, false, arith}
 use Rattle.std.proofs.lemmas.Nat.{shl_whole}
 use Rattle.lg_arith.specs.Operands.{are_defined}
 use Rattle.lg_arith.specs.Quotient.{quotient_operands}

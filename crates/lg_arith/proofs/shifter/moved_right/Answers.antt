@@ -1,4 +1,4 @@
-use Rattle.std.proofs.Common.{◌≡◌, arith, ap, ◌∙◌, sym}
+use Rattle.std.proofs.Common.{arith}
 use Rattle.lg_arith.proofs.ShiftLemmas.{moved_right_in}
 use Rattle.lg_arith.proofs.shifter.moved_right.Goals as goal
 
