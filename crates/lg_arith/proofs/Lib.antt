@@ -1,0 +1,14 @@
+pub mod CountLemmas
+pub mod DefinedLemmas
+pub mod ExtendLemmas
+pub mod NumberLemmas
+pub mod OperandLemmas
+pub mod OrderLemmas
+pub mod ProductLemmas
+pub mod QuotientLemmas
+pub mod ShiftLemmas
+pub mod ShiftNumbers
+pub mod SumLemmas
+pub mod TotalOrder
+pub mod UndoneLemmas
+pub mod WholeLemmas
