@@ -1,5 +1,6 @@
 -- A sheet has one netlist, so what that netlist is not the circuit is not.
 use Rattle.std.proofs.Common.{◌≡◌, false, List, [], ◌∷◌, length, get_or, Some, sym, ap, subst, ◌∙◌, arith}
+use Rattle.std.proofs.lemmas.Option.{same_Some}
 use Rattle.std.specs.List.{zip}
 use Rattle.std.proofs.lemmas.Bool.{false≢true}
 use Rattle.lg_circ.specs.declared.project.Sheet.{Sheet}
@@ -10,9 +11,6 @@ use Rattle.lg_flatten.specs.declared.role.Role.{Role}
 use Rattle.lg_flatten.specs.Uses.{roles_of}
 use Rattle.lg_flatten.specs.Flat.{IsNetlistOf}
 use Rattle.lg.specs.OneSheet.{IsBuilt, IsNotBuilt}
-
-some_is : (a b : List Role) → Some a ≡ Some b → a ≡ b
-some_is a b e = cc
 
 head_is : (a b : Sheet) → a ∷ [] ≡ b ∷ [] → a ≡ b
 head_is a b e = cc
@@ -28,7 +26,7 @@ pub one_built : (project : Project) (sheet : Sheet) (roles : List Role) (n : Net
     → ((other : Netlist) → IsNetlistOf sheet (zip sheet.comps roles) other → other ≡ n) → (other : Netlist) → IsBuilt project other → other ≡ n
 one_built project sheet roles n one known only other built =
     let same : built.sheet ≡ sheet = head_is built.sheet sheet (sym built.only_sheet ∙ one) in
-    let as_roles : built.roles ≡ roles = some_is built.roles roles (sym built.roles_are ∙ (ap (λ (s : Sheet). roles_of project.libs s.comps) same ∙ known)) in
+    let as_roles : built.roles ≡ roles = same_Some built.roles roles (sym built.roles_are ∙ (ap (λ (s : Sheet). roles_of project.libs s.comps) same ∙ known)) in
     let moved : IsNetlistOf sheet (zip sheet.comps built.roles) other = subst (λ (s : Sheet). IsNetlistOf s (zip s.comps built.roles) other) same built.netlist in
     only other (subst (λ (rs : List Role). IsNetlistOf sheet (zip sheet.comps rs) other) as_roles moved)
 

@@ -8,9 +8,8 @@ use Rattle.lg_value.specs.Word.{IsDefined, number_of}
 use Rattle.lg_netlist.specs.declared.netlist.PartUse.{PartUse}
 use Rattle.lg_netlist.specs.declared.netlist.PinUse.{PinUse}
 use Rattle.lg_netlist.specs.declared.netlist.Netlist.{Netlist}
-use Rattle.lg_netlist.specs.Valid.{IsValid}
 use Rattle.lg_netlist.specs.OneGate.{driven_by_parts, driven_by_pins, driven, is_one_gate}
-use Rattle.lg_netlist.specs.Cell.{gate_word}
+use Rattle.lg_netlist.specs.Cell.{cell_word}
 use Rattle.lg_netlist.specs.Static.{input_pins, output_pins, word_on, word_at, Carries, PartCarries, AreStaticValues, IsDefinedRow, output_words}
 use Rattle.lg_verilog.specs.declared.module.Assign.{Assign}
 use Rattle.lg_verilog.specs.declared.module.Module.{Module}
@@ -19,12 +18,12 @@ use Rattle.lg_vmeaning.specs.InOrder.{IsIn}
 use Rattle.lg_vmeaning.proofs.InOrderLemmas.{AreBits, HasOutputs-ordered, one_bit, at_names, assigned}
 use Rattle.lg_export.specs.Layout.{numbered, input_name, output_name, input_wire, output_wire, output_drivers, part_drivers, drivers, driver_name, bits_value, part_assigns, module_of}
 use Rattle.lg_export.specs.Agreement.{AgreesOnRow, Agrees}
-use Rattle.lg_export.proofs.Forms.{value_of-Whole, value_of-equation, gate_number}
-use Rattle.lg_export.proofs.Simple.{IsNetIn, single, IsSimple, IsPinOn, IsLoose, IsPlain, IsPlain-from}
+use Rattle.lg_export.proofs.EquationValues.{value_of-Whole, value_of-equation, gate_number}
+use Rattle.lg_export.proofs.OneGateShape.{IsNetIn, single, IsSimple, IsPinOn, IsLoose, IsOneGateShape, IsOneGateShape-from}
 use Rattle.lg_export.proofs.Driving.{Entry, IsEntry, IsEntry-left, IsEntry-right, pins_drive, names_in, found, from_pin, split_net}
 use Rattle.lg_export.proofs.Ordered.{x_names, x_assigns, w_assign, o_assign, part_assigns-is}
 use Rattle.lg_export.proofs.Declared.{input_names-is, output_names-is, wires_narrow, module_is_ordered, IsIn-right}
-use Rattle.lg_export.proofs.Gates.{bit_of_digit, IsDefinedBit, bit_is_defined, number_of-bit, bit-number_of, number_of-small, bits_of, AreSmall, gate_bit, gate_bit-number, gate_word-bit}
+use Rattle.lg_export.proofs.Gates.{bit_of_digit, IsDefinedBit, bit_is_defined, number_of-bit, bit-number_of, number_of-small, bits_of, AreSmall, gate_bit, gate_bit-number, cell_word-bit}
 
 -- each equation holds
 abbrev Hold : Module → Valuation → List Assign → Type 0
@@ -70,25 +69,25 @@ gate_output n m v on k p s small narrow h =
 abbrev AreEntries : List Entry → List Entry → Type 0
 AreEntries some all = (net : ℕ) (name : List ℕ) → IsEntry some net name → IsEntry all net name
 
-carried : (n : Netlist) → IsPlain n → (m : Module) (v : Valuation) (on : List ℕ) (k : ℕ) (p : PartUse) (s : IsSimple on p) → bit_of_digit (v (output_wire k 0)) ≡ gate_bit p.cell (map (bit_on n v) (s.first ∷ s.more))
+carried : (n : Netlist) → IsOneGateShape n → (m : Module) (v : Valuation) (on : List ℕ) (k : ℕ) (p : PartUse) (s : IsSimple on p) → bit_of_digit (v (output_wire k 0)) ≡ gate_bit p.cell (map (bit_on n v) (s.first ∷ s.more))
     → AreEntries (output_drivers k 0 p.outputs) (drivers n) → PartCarries (bit_on n v) p
 carried n plain m v on k p s says entries =
-    subst (λ (ports : List (List ℕ)). AllByRecursion (λ (bits : List ℕ). Carries (bit_on n v) bits (gate_word p.cell (length bits) (map (word_at (bit_on n v)) p.inputs))) ports) (sym s.gives)
+    subst (λ (ports : List (List ℕ)). AllByRecursion (λ (bits : List ℕ). Carries (bit_on n v) bits (cell_word p.cell (length bits) (map (word_at (bit_on n v)) p.inputs))) ports) (sym s.gives)
     (by s.output s.loose (λ net e. entries net (output_wire k 0) (subst (λ (ports : List (List ℕ)). IsEntry (output_drivers k 0 ports) net (output_wire k 0)) (sym s.gives) (first_entry s.output net e))), tt)
   where
     first_entry : (out : List ℕ) (net : ℕ) → out ≡ single net → IsEntry (output_drivers k 0 (out ∷ [])) net (output_wire k 0)
     first_entry out net e = subst (λ (o : List ℕ). IsEntry (output_drivers k 0 (o ∷ [])) net (output_wire k 0)) (sym e) (inl (refl, refl))
 
-    by : (out : List ℕ) → IsLoose out → ((net : ℕ) → out ≡ single net → IsEntry (drivers n) net (output_wire k 0)) → Carries (bit_on n v) out (gate_word p.cell (length out) (map (word_at (bit_on n v)) p.inputs))
+    by : (out : List ℕ) → IsLoose out → ((net : ℕ) → out ≡ single net → IsEntry (drivers n) net (output_wire k 0)) → Carries (bit_on n v) out (cell_word p.cell (length out) (map (word_at (bit_on n v)) p.inputs))
     by out (inl e) entry = inl e
     by out (inr w) entry =
         let name = found n plain w.0 (output_wire k 0) (entry w.0 w.1) in
         let bit : bit_on n v w.0 ≡ gate_bit p.cell (map (bit_on n v) (s.first ∷ s.more)) = ap (λ (d : List ℕ). bit_of_digit (v d)) name ∙ says in
-        let word : gate_word p.cell 1 (map (word_at (bit_on n v)) p.inputs) ≡ gate_bit p.cell (map (bit_on n v) (s.first ∷ s.more)) ∷ [] =
-        ap (λ (ports : List (List ℕ)). gate_word p.cell 1 (map (word_at (bit_on n v)) ports)) s.reads ∙ gate_word-bit p.cell (bit_on n v) s.first s.more s.alone in
-        inr (subst (λ (o : List ℕ). word_on (bit_on n v) o ≡ gate_word p.cell (length o) (map (word_at (bit_on n v)) p.inputs)) (sym w.1) (ap (λ (b : Bit). b ∷ []) bit ∙ sym word))
+        let word : cell_word p.cell 1 (map (word_at (bit_on n v)) p.inputs) ≡ gate_bit p.cell (map (bit_on n v) (s.first ∷ s.more)) ∷ [] =
+        ap (λ (ports : List (List ℕ)). cell_word p.cell 1 (map (word_at (bit_on n v)) ports)) s.reads ∙ cell_word-bit p.cell (bit_on n v) s.first s.more s.alone in
+        inr (subst (λ (o : List ℕ). word_on (bit_on n v) o ≡ cell_word p.cell (length o) (map (word_at (bit_on n v)) p.inputs)) (sym w.1) (ap (λ (b : Bit). b ∷ []) bit ∙ sym word))
 
-parts_carry : (n : Netlist) → IsPlain n → (m : Module) (v : Valuation) (on : List ℕ) (k last : ℕ) (parts : List PartUse) → k + length parts ≡ last → AllByRecursion (IsSimple on) parts
+parts_carry : (n : Netlist) → IsOneGateShape n → (m : Module) (v : Valuation) (on : List ℕ) (k last : ℕ) (parts : List PartUse) → k + length parts ≡ last → AllByRecursion (IsSimple on) parts
     → ((net : ℕ) → IsNetIn on net → v (driver_name (drivers n) net) < 2) → ((q : ℕ) → q < last → width_of m (input_wire q 0) ≡ 1)
     → Hold m v (flat_map (part_assigns (drivers n)) (enumerate_from k parts)) → AreEntries (part_drivers k parts) (drivers n) → AllByRecursion (PartCarries (bit_on n v)) parts
 parts_carry n plain m v on k last [] e simple small narrow h entries = tt
@@ -119,7 +118,7 @@ tails : (a b : ℕ) (xs ys : List ℕ) → a ∷ xs ≡ b ∷ ys → xs ≡ ys
 tails a b xs ys e = cc
 
 -- the input pins say the row
-inputs_say : (n : Netlist) → IsPlain n → (v : Valuation) (on : List ℕ) (pins : List PinUse) (row : List (List Bit)) → AllByRecursion (IsPinOn on) pins → IsDefinedRow pins row
+inputs_say : (n : Netlist) → IsOneGateShape n → (v : Valuation) (on : List ℕ) (pins : List PinUse) (row : List (List Bit)) → AllByRecursion (IsPinOn on) pins → IsDefinedRow pins row
     → map v (names_in pins) ≡ map number_of row → AreEntries (pins_drive pins) (drivers n) → pins_say pins (bit_on n v) ≡ row
 inputs_say n plain v on [] [] pins defined e entries = refl
 inputs_say n plain v on [] (word ∷ row) pins defined e entries = absurd defined
@@ -223,22 +222,22 @@ same_driven value other on (p ∷ parts) simple same pv po net h =
     bit_heads : (a b : Bit) → a ∷ [] ≡ b ∷ [] → a ≡ b
     bit_heads a b e = cc
 
-    carries_of : (w : ℕ → Bit) → PartCarries w p → Carries w s.output (gate_word p.cell (length s.output) (map (word_at w) p.inputs))
-    carries_of w c = (subst (λ (ports : List (List ℕ)). AllByRecursion (λ (bits : List ℕ). Carries w bits (gate_word p.cell (length bits) (map (word_at w) p.inputs))) ports) s.gives c).0
+    carries_of : (w : ℕ → Bit) → PartCarries w p → Carries w s.output (cell_word p.cell (length s.output) (map (word_at w) p.inputs))
+    carries_of w c = (subst (λ (ports : List (List ℕ)). AllByRecursion (λ (bits : List ℕ). Carries w bits (cell_word p.cell (length bits) (map (word_at w) p.inputs))) ports) s.gives c).0
 
-    words : gate_word p.cell 1 (map (word_at value) p.inputs) ≡ gate_word p.cell 1 (map (word_at other) p.inputs)
+    words : cell_word p.cell 1 (map (word_at value) p.inputs) ≡ cell_word p.cell 1 (map (word_at other) p.inputs)
     words =
-        ap (λ (ports : List (List ℕ)). gate_word p.cell 1 (map (word_at value) ports)) s.reads
-        ∙ (ap (gate_word p.cell 1) (same_inputs value other on (s.first ∷ s.more) same s.among)
-        ∙ ap (λ (ports : List (List ℕ)). gate_word p.cell 1 (map (word_at other) ports)) (sym s.reads))
+        ap (λ (ports : List (List ℕ)). cell_word p.cell 1 (map (word_at value) ports)) s.reads
+        ∙ (ap (cell_word p.cell 1) (same_inputs value other on (s.first ∷ s.more) same s.among)
+        ∙ ap (λ (ports : List (List ℕ)). cell_word p.cell 1 (map (word_at other) ports)) (sym s.reads))
 
     not_empty : (out : List ℕ) (k : ℕ) (word : List Bit) (w : ℕ → Bit) → out ≡ single k → Carries w out word → word_on w out ≡ word
     not_empty out k word w e (inl f) = absurd (cc (sym e ∙ f))
     not_empty out k word w e (inr f) = f
 
-    at_net : (w : ℕ → Bit) (k : ℕ) → s.output ≡ single k → PartCarries w p → w k ∷ [] ≡ gate_word p.cell 1 (map (word_at w) p.inputs)
+    at_net : (w : ℕ → Bit) (k : ℕ) → s.output ≡ single k → PartCarries w p → w k ∷ [] ≡ cell_word p.cell 1 (map (word_at w) p.inputs)
     at_net w k e c =
-        sym (ap (word_on w) e) ∙ (not_empty s.output k (gate_word p.cell (length s.output) (map (word_at w) p.inputs)) w e (carries_of w c) ∙ ap (λ (out : List ℕ). gate_word p.cell (length out) (map (word_at w) p.inputs)) e)
+        sym (ap (word_on w) e) ∙ (not_empty s.output k (cell_word p.cell (length s.output) (map (word_at w) p.inputs)) w e (carries_of w c) ∙ ap (λ (out : List ℕ). cell_word p.cell (length out) (map (word_at w) p.inputs)) e)
 
     in_output : (out : List ℕ) → IsLoose out → (k : ℕ) → IsNetIn (out ++ []) k → out ≡ single k
     in_output out (inl e) k h = absurd (subst (λ (o : List ℕ). IsNetIn (o ++ []) k) e h)
@@ -261,7 +260,7 @@ same_outputs value other on (p ∷ more) pins same =
     (ap (word_on value) pins.0.bits ∙ (ap (λ (b : Bit). b ∷ []) (same pins.0.net pins.0.among) ∙ sym (ap (word_on other) pins.0.bits))) (same_outputs value other on more pins.1 same)
 
 -- the static values of a row are the same on all driven nets
-static_only : (n : Netlist) → IsPlain n → (row : List (List Bit)) (value other : ℕ → Bit) → AreStaticValues n row value → AreStaticValues n row other → output_words n other ≡ output_words n value
+static_only : (n : Netlist) → IsOneGateShape n → (row : List (List Bit)) (value other : ℕ → Bit) → AreStaticValues n row value → AreStaticValues n row other → output_words n other ≡ output_words n value
 static_only n plain row value other sv so =
     let on_pins : (net : ℕ) → IsNetIn (driven_by_pins n.pins) net → other net ≡ value net = λ net h.
     same_words other value (driven_by_pins n.pins) (input_pins n) plain.inputs (so.pins ∙ sym sv.pins) net
@@ -280,7 +279,7 @@ all_small_outputs v D pins before small = each pins (λ name h. small name (subs
     each (p ∷ ps) low = (low (output_name p) (inl refl), each ps (λ name h. low name (inr h)))
 
 -- the static values that a solution gives
-agrees_on : (n : Netlist) → IsPlain n → (row : List (List Bit)) → IsDefinedRow (input_pins n) row → AgreesOnRow n (module_of n) row
+agrees_on : (n : Netlist) → IsOneGateShape n → (row : List (List Bit)) → IsDefinedRow (input_pins n) row → AgreesOnRow n (module_of n) row
 agrees_on n plain row defined =
     let m = module_of n in
     let on = driven_by_pins n.pins in
@@ -315,5 +314,5 @@ agrees_on n plain row defined =
     }
 
 -- the module of a one-gate netlist agrees with it
-pub agrees : (n : Netlist) → IsValid n → is_one_gate n ≡ true → Agrees n (module_of n)
-agrees n valid one row defined = agrees_on n (IsPlain-from n valid one) row defined
+pub agrees : (n : Netlist) → is_one_gate n ≡ true → Agrees n (module_of n)
+agrees n one row defined = agrees_on n (IsOneGateShape-from n one) row defined

@@ -17,9 +17,9 @@ use Rattle.lg_vmeaning.specs.Meaning.{Line, port_line, decl_line, declared, widt
 use Rattle.lg_vmeaning.specs.InOrder.{IsIn, AreInOrder}
 use Rattle.lg_vmeaning.proofs.InOrderLemmas.{AllDiffer, IsGiven, IsOrdered, assigned}
 use Rattle.lg_export.specs.Layout.{numbered, input_name, output_name, input_wire, output_wire, drivers, part_decls, part_assigns, module_of, module_assigns}
-use Rattle.lg_export.proofs.Forms.{width-one}
+use Rattle.lg_export.proofs.EquationValues.{width-one}
 use Rattle.lg_export.proofs.WireNames.{input_name_same}
-use Rattle.lg_export.proofs.Simple.{IsSimple, NoneNamed, NamesDiffer, IsPlain}
+use Rattle.lg_export.proofs.OneGateShape.{IsSimple, NoneNamed, NamesDiffer, IsOneGateShape}
 use Rattle.lg_export.proofs.Driving.{names_in}
 use Rattle.lg_export.proofs.Ordered.{x_names, x_assigns, w_assign, o_assign, part_assigns-is, part_decls-is, in_order}
 
@@ -148,7 +148,7 @@ narrow-parts k on (p ∷ parts) simple =
     (narrow-parts (k + 1) on parts simple.1)
 
 -- all that is declared is given, with one bit
-all_given : (n : Netlist) → IsPlain n → AreGiven (names_in (input_pins n)) (module_assigns n) (declared (module_of n))
+all_given : (n : Netlist) → IsOneGateShape n → AreGiven (names_in (input_pins n)) (module_assigns n) (declared (module_of n))
 all_given n plain =
     let known = names_in (input_pins n) in
     let assigns = module_assigns n in
@@ -197,7 +197,7 @@ line_names [] = refl
 line_names (d ∷ decls) = ap (λ (rest : List (List ℕ)). (decl_line d).0 ∷ rest) (line_names decls)
 
 -- a wire of each part has one bit
-pub wires_narrow : (n : Netlist) → IsPlain n → (q : ℕ) → q < length n.parts → width_of (module_of n) (input_wire q 0) ≡ 1
+pub wires_narrow : (n : Netlist) → IsOneGateShape n → (q : ℕ) → q < length n.parts → width_of (module_of n) (input_wire q 0) ≡ 1
 wires_narrow n plain q less =
     let decls = flat_map part_decls (numbered n.parts) in
     let ports = map port_line (map in_port (input_pins n) ++ map out_port (output_pins n)) in
@@ -208,7 +208,7 @@ wires_narrow n plain q less =
     (IsIn-right (map (λ (l : Line). l.0) ports) (names_of decls) (input_wire q 0) (first_wire (driven_by_pins n.pins) 0 (length n.parts) n.parts (omega arith) plain.parts q (omega arith) less)))
 
 -- the module of a plain netlist is ordered
-pub module_is_ordered : (n : Netlist) → IsPlain n → IsOrdered (module_of n)
+pub module_is_ordered : (n : Netlist) → IsOneGateShape n → IsOrdered (module_of n)
 module_is_ordered n plain =
     let names = input_names-is n in
     record {

@@ -2,7 +2,7 @@
 use Rattle.std.proofs.Common.{◌≡◌, ℕ, ◌+◌, ◌<◌, ◌≤◌, Bool, true, false, not, ◌||◌, List, [], ◌∷◌, ◌++◌, length, map, eq-eqb, refl, sym, ap, subst, ◌∙◌, arith, inl, inr, ◌⊎◌}
 use Rattle.std.specs.Prelude.{◌==◌}
 use Rattle.std.specs.List.{AllByRecursion, list_any, flat_map}
-use Rattle.std.proofs.lemmas.Bool.{eqb-true, false≢true}
+use Rattle.std.proofs.lemmas.Bool.{eqb-true, false≢true, or_right}
 use Rattle.std.proofs.lemmas.List.{map-append, append-nil}
 use Rattle.lg_netlist.specs.declared.netlist.PartUse.{PartUse}
 use Rattle.lg_netlist.specs.declared.netlist.PinUse.{PinUse}
@@ -11,7 +11,7 @@ use Rattle.lg_netlist.specs.OneGate.{driven_by_parts, driven_by_pins, driven, is
 use Rattle.lg_netlist.specs.Static.{input_pins}
 use Rattle.lg_vmeaning.specs.InOrder.{IsIn}
 use Rattle.lg_export.specs.Layout.{input_name, output_wire, output_drivers, part_drivers, drivers, driver_name}
-use Rattle.lg_export.proofs.Simple.{both_hold, IsNetIn, IsSimple, IsPlain}
+use Rattle.lg_export.proofs.OneGateShape.{both_hold, IsNetIn, IsSimple, IsOneGateShape}
 use Rattle.lg_export.specs.Readable.{IsDriven}
 
 -- the net and the name of what drives it
@@ -34,10 +34,6 @@ IsEntry-left (x ∷ xs) ys net name (inr h) = inr (IsEntry-left xs ys net name h
 pub IsEntry-right : (xs ys : List Entry) (net : ℕ) (name : List ℕ) → IsEntry ys net name → IsEntry (xs ++ ys) net name
 IsEntry-right [] ys net name h = h
 IsEntry-right (x ∷ xs) ys net name h = inr (IsEntry-right xs ys net name h)
-
-or_right : (a b : Bool) → b ≡ true → (a || b) ≡ true
-or_right true b h = refl
-or_right false b h = h
 
 among_entry : (entries : List Entry) (net : ℕ) (name : List ℕ) → IsEntry entries net name → is_among (nets_of entries) net ≡ true
 among_entry [] net name h = absurd h
@@ -99,14 +95,14 @@ nets_of-pins (p ∷ pins) =
     ∙ two (nets_of (map (λ net. (net, input_name p)) p.bits)) p.bits (nets_of (pins_drive pins)) (flat_map (λ (q : PinUse). q.bits) pins) (nets_of-bits (input_name p) p.bits) (nets_of-pins pins)
 
 -- the nets of the drivers are the driven nets
-pub nets_of-drivers : (n : Netlist) → IsPlain n → nets_of (drivers n) ≡ driven n
+pub nets_of-drivers : (n : Netlist) → IsOneGateShape n → nets_of (drivers n) ≡ driven n
 nets_of-drivers n plain =
     nets_of-append (part_drivers 0 n.parts) (pins_drive (input_pins n))
     ∙ two (nets_of (part_drivers 0 n.parts)) (driven_by_parts n.parts) (nets_of (pins_drive (input_pins n))) (driven_by_pins n.pins) (nets_of-parts 0 n.parts)
     (nets_of-pins (input_pins n) ∙ ap (flat_map (λ (p : PinUse). p.bits)) plain.input_pins_are)
 
 -- so what is found for a net is the name of its driver
-pub found : (n : Netlist) → IsPlain n → (net : ℕ) (name : List ℕ) → IsEntry (drivers n) net name → driver_name (drivers n) net ≡ name
+pub found : (n : Netlist) → IsOneGateShape n → (net : ℕ) (name : List ℕ) → IsEntry (drivers n) net name → driver_name (drivers n) net ≡ name
 found n plain net name here =
     driver_name-entry (drivers n) net name (subst (λ (nets : List ℕ). all_differ nets ≡ true) (sym (nets_of-drivers n plain)) plain.drivers_differ) here
 
@@ -146,7 +142,7 @@ pin_driven (p ∷ pins) net h = by (split_net p.bits (flat_map (λ (q : PinUse).
     by (inr h) rest = let w = rest h in record { name = w.name; entry = IsEntry-right here (pins_drive pins) net w.name w.entry; among = inr w.among }
 
 -- the net of a gate's input has an input pin as its driver
-pub from_pin : (n : Netlist) → IsPlain n → (net : ℕ) → IsNetIn (driven_by_pins n.pins) net → IsIn (names_in (input_pins n)) (driver_name (drivers n) net)
+pub from_pin : (n : Netlist) → IsOneGateShape n → (net : ℕ) → IsNetIn (driven_by_pins n.pins) net → IsIn (names_in (input_pins n)) (driver_name (drivers n) net)
 from_pin n plain net h =
     let w = pin_driven (input_pins n) net (subst (λ (nets : List ℕ). IsNetIn nets net) (sym (ap (flat_map (λ (p : PinUse). p.bits)) plain.input_pins_are)) h) in
     subst (IsIn (names_in (input_pins n))) (sym (found n plain net w.name (IsEntry-right (part_drivers 0 n.parts) (pins_drive (input_pins n)) net w.name w.entry))) w.among
@@ -194,7 +190,7 @@ part_driven on part last (p ∷ parts) net e simple h =
         record { q = w.q; low = omega (arith, w.low); high = w.high; entry = IsEntry-right here (part_drivers (part + 1) parts) net (output_wire w.q 0) w.entry }
 
 -- each driven net has a pin or a part as its driver
-pub from_source : (n : Netlist) → IsPlain n → (net : ℕ) → IsNetIn (driven n) net → IsSource (names_in (input_pins n)) (length n.parts) (driver_name (drivers n) net)
+pub from_source : (n : Netlist) → IsOneGateShape n → (net : ℕ) → IsNetIn (driven n) net → IsSource (names_in (input_pins n)) (length n.parts) (driver_name (drivers n) net)
 from_source n plain net h = by (split_net (driven_by_parts n.parts) (driven_by_pins n.pins) net h)
   where
     by : IsNetIn (driven_by_parts n.parts) net ⊎ IsNetIn (driven_by_pins n.pins) net → IsSource (names_in (input_pins n)) (length n.parts) (driver_name (drivers n) net)

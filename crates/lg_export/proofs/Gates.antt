@@ -1,20 +1,25 @@
 -- What a gate's equation says of numbers is what the gate answers to bits.
-use Rattle.std.proofs.Common.{◌≡◌, ℕ, zero, suc, ◌-◌, ◌<◌, List, [], ◌∷◌, map, Option, refl, sym, ap, subst, ◌∙◌, arith, inl, inr, ◌⊎◌}
-use Rattle.std.specs.List.{AllByRecursion, filter_map}
+use Rattle.std.proofs.Common.{◌≡◌, ℕ, zero, suc, false, ◌-◌, ◌<◌, List, [], ◌∷◌, map, refl, sym, ap, subst, ◌∙◌, arith, inl, inr, ◌⊎◌}
+use Rattle.std.specs.List.{AllByRecursion}
 use Rattle.lg_value.specs.declared.bit.Bit.{Bit}
 use Rattle.lg_value.specs.declared.bit.Bit.TheVariants.{Zero, One, Error}
-use Rattle.lg_value.specs.Bit.{digit_of}
+use Rattle.lg_value.specs.Bit.{digit_of, not_bit}
 use Rattle.lg_value.specs.Word.{number_of}
 use Rattle.lg_value.proofs.WordLemmas.{number_of_one}
 use Rattle.lg_netlist.specs.declared.netlist.Cell.{Cell}
 use Rattle.lg_netlist.specs.declared.netlist.Cell.TheVariants as cell
-use Rattle.lg_netlist.specs.Cell.{not_of, and_of, or_of, bits_at, bitwise, gate_word}
+use Rattle.lg_gates.specs.declared.gates.GateKind.{GateKind}
+use Rattle.lg_gates.specs.declared.gates.GateKind.TheVariants as kind
+use Rattle.lg_gates.specs.Gate.{and_bit, or_bit, bits_at, attached, gate_word}
+use Rattle.lg_gates.specs.Gate as gates
+use Rattle.lg_gates.proofs.GateLemmas.{gate_word-loose, loose_word}
+use Rattle.lg_netlist.specs.Cell.{cell_word}
 use Rattle.lg_netlist.specs.Static.{word_at}
 use Rattle.lg_verilog.specs.declared.module.Operator.{Operator}
 use Rattle.lg_verilog.specs.declared.module.Operator.TheVariants as operator
 use Rattle.lg_vmeaning.specs.Meaning.{Valuation, operator_value}
-use Rattle.lg_export.proofs.Forms.{folded, gate_number, IsBit-cases, operator_small}
-use Rattle.lg_export.proofs.Simple.{single}
+use Rattle.lg_export.proofs.EquationValues.{folded, gate_number, IsBit-cases, operator_small}
+use Rattle.lg_export.proofs.OneGateShape.{single}
 
 -- the bit that a number of one bit stands for
 abbrev pub bit_of_digit : ℕ → Bit
@@ -50,30 +55,30 @@ number_of-small b h = subst (λ (k : ℕ). k < 2) (sym (number_of_one b)) (by h)
     by (inr e) = rw e (omega arith)
 
 and_step : (k j : ℕ) (rest : List Bit) → (k ≡ 0) ⊎ (k ≡ 1) → (j ≡ 0) ⊎ (j ≡ 1)
-    → and_of (bit_of_digit k ∷ bit_of_digit j ∷ rest) ≡ and_of (bit_of_digit (operator_value operator.And k j) ∷ rest)
-and_step k j rest (inl e) (inl f) = ap (λ (a : ℕ). and_of (bit_of_digit a ∷ bit_of_digit j ∷ rest)) e ∙ sym (ap (λ (a : ℕ). and_of (bit_of_digit (operator_value operator.And a j) ∷ rest)) e)
-and_step k j rest (inl e) (inr f) = ap (λ (a : ℕ). and_of (bit_of_digit a ∷ bit_of_digit j ∷ rest)) e ∙ sym (ap (λ (a : ℕ). and_of (bit_of_digit (operator_value operator.And a j) ∷ rest)) e)
+    → and_bit (bit_of_digit k ∷ bit_of_digit j ∷ rest) ≡ and_bit (bit_of_digit (operator_value operator.And k j) ∷ rest)
+and_step k j rest (inl e) (inl f) = ap (λ (a : ℕ). and_bit (bit_of_digit a ∷ bit_of_digit j ∷ rest)) e ∙ sym (ap (λ (a : ℕ). and_bit (bit_of_digit (operator_value operator.And a j) ∷ rest)) e)
+and_step k j rest (inl e) (inr f) = ap (λ (a : ℕ). and_bit (bit_of_digit a ∷ bit_of_digit j ∷ rest)) e ∙ sym (ap (λ (a : ℕ). and_bit (bit_of_digit (operator_value operator.And a j) ∷ rest)) e)
 and_step k j rest (inr e) (inl f) =
-    (ap (λ (a : ℕ). and_of (bit_of_digit a ∷ bit_of_digit j ∷ rest)) e ∙ ap (λ (b : ℕ). and_of (bit_of_digit 1 ∷ bit_of_digit b ∷ rest)) f)
-    ∙ sym (ap (λ (a : ℕ). and_of (bit_of_digit (operator_value operator.And a j) ∷ rest)) e ∙ ap (λ (b : ℕ). and_of (bit_of_digit (operator_value operator.And 1 b) ∷ rest)) f)
+    (ap (λ (a : ℕ). and_bit (bit_of_digit a ∷ bit_of_digit j ∷ rest)) e ∙ ap (λ (b : ℕ). and_bit (bit_of_digit 1 ∷ bit_of_digit b ∷ rest)) f)
+    ∙ sym (ap (λ (a : ℕ). and_bit (bit_of_digit (operator_value operator.And a j) ∷ rest)) e ∙ ap (λ (b : ℕ). and_bit (bit_of_digit (operator_value operator.And 1 b) ∷ rest)) f)
 and_step k j rest (inr e) (inr f) =
-    (ap (λ (a : ℕ). and_of (bit_of_digit a ∷ bit_of_digit j ∷ rest)) e ∙ ap (λ (b : ℕ). and_of (bit_of_digit 1 ∷ bit_of_digit b ∷ rest)) f)
-    ∙ sym (ap (λ (a : ℕ). and_of (bit_of_digit (operator_value operator.And a j) ∷ rest)) e ∙ ap (λ (b : ℕ). and_of (bit_of_digit (operator_value operator.And 1 b) ∷ rest)) f)
+    (ap (λ (a : ℕ). and_bit (bit_of_digit a ∷ bit_of_digit j ∷ rest)) e ∙ ap (λ (b : ℕ). and_bit (bit_of_digit 1 ∷ bit_of_digit b ∷ rest)) f)
+    ∙ sym (ap (λ (a : ℕ). and_bit (bit_of_digit (operator_value operator.And a j) ∷ rest)) e ∙ ap (λ (b : ℕ). and_bit (bit_of_digit (operator_value operator.And 1 b) ∷ rest)) f)
 
 or_step : (k j : ℕ) (rest : List Bit) → (k ≡ 0) ⊎ (k ≡ 1) → (j ≡ 0) ⊎ (j ≡ 1)
-    → or_of (bit_of_digit k ∷ bit_of_digit j ∷ rest) ≡ or_of (bit_of_digit (operator_value operator.Or k j) ∷ rest)
+    → or_bit (bit_of_digit k ∷ bit_of_digit j ∷ rest) ≡ or_bit (bit_of_digit (operator_value operator.Or k j) ∷ rest)
 or_step k j rest (inl e) (inl f) =
-    (ap (λ (a : ℕ). or_of (bit_of_digit a ∷ bit_of_digit j ∷ rest)) e ∙ ap (λ (b : ℕ). or_of (bit_of_digit 0 ∷ bit_of_digit b ∷ rest)) f)
-    ∙ sym (ap (λ (a : ℕ). or_of (bit_of_digit (operator_value operator.Or a j) ∷ rest)) e ∙ ap (λ (b : ℕ). or_of (bit_of_digit (operator_value operator.Or 0 b) ∷ rest)) f)
+    (ap (λ (a : ℕ). or_bit (bit_of_digit a ∷ bit_of_digit j ∷ rest)) e ∙ ap (λ (b : ℕ). or_bit (bit_of_digit 0 ∷ bit_of_digit b ∷ rest)) f)
+    ∙ sym (ap (λ (a : ℕ). or_bit (bit_of_digit (operator_value operator.Or a j) ∷ rest)) e ∙ ap (λ (b : ℕ). or_bit (bit_of_digit (operator_value operator.Or 0 b) ∷ rest)) f)
 or_step k j rest (inl e) (inr f) =
-    (ap (λ (a : ℕ). or_of (bit_of_digit a ∷ bit_of_digit j ∷ rest)) e ∙ ap (λ (b : ℕ). or_of (bit_of_digit 0 ∷ bit_of_digit b ∷ rest)) f)
-    ∙ sym (ap (λ (a : ℕ). or_of (bit_of_digit (operator_value operator.Or a j) ∷ rest)) e ∙ ap (λ (b : ℕ). or_of (bit_of_digit (operator_value operator.Or 0 b) ∷ rest)) f)
+    (ap (λ (a : ℕ). or_bit (bit_of_digit a ∷ bit_of_digit j ∷ rest)) e ∙ ap (λ (b : ℕ). or_bit (bit_of_digit 0 ∷ bit_of_digit b ∷ rest)) f)
+    ∙ sym (ap (λ (a : ℕ). or_bit (bit_of_digit (operator_value operator.Or a j) ∷ rest)) e ∙ ap (λ (b : ℕ). or_bit (bit_of_digit (operator_value operator.Or 0 b) ∷ rest)) f)
 or_step k j rest (inr e) (inl f) =
-    (ap (λ (a : ℕ). or_of (bit_of_digit a ∷ bit_of_digit j ∷ rest)) e ∙ ap (λ (b : ℕ). or_of (bit_of_digit 1 ∷ bit_of_digit b ∷ rest)) f)
-    ∙ sym (ap (λ (a : ℕ). or_of (bit_of_digit (operator_value operator.Or a j) ∷ rest)) e ∙ ap (λ (b : ℕ). or_of (bit_of_digit (operator_value operator.Or 1 b) ∷ rest)) f)
+    (ap (λ (a : ℕ). or_bit (bit_of_digit a ∷ bit_of_digit j ∷ rest)) e ∙ ap (λ (b : ℕ). or_bit (bit_of_digit 1 ∷ bit_of_digit b ∷ rest)) f)
+    ∙ sym (ap (λ (a : ℕ). or_bit (bit_of_digit (operator_value operator.Or a j) ∷ rest)) e ∙ ap (λ (b : ℕ). or_bit (bit_of_digit (operator_value operator.Or 1 b) ∷ rest)) f)
 or_step k j rest (inr e) (inr f) =
-    (ap (λ (a : ℕ). or_of (bit_of_digit a ∷ bit_of_digit j ∷ rest)) e ∙ ap (λ (b : ℕ). or_of (bit_of_digit 1 ∷ bit_of_digit b ∷ rest)) f)
-    ∙ sym (ap (λ (a : ℕ). or_of (bit_of_digit (operator_value operator.Or a j) ∷ rest)) e ∙ ap (λ (b : ℕ). or_of (bit_of_digit (operator_value operator.Or 1 b) ∷ rest)) f)
+    (ap (λ (a : ℕ). or_bit (bit_of_digit a ∷ bit_of_digit j ∷ rest)) e ∙ ap (λ (b : ℕ). or_bit (bit_of_digit 1 ∷ bit_of_digit b ∷ rest)) f)
+    ∙ sym (ap (λ (a : ℕ). or_bit (bit_of_digit (operator_value operator.Or a j) ∷ rest)) e ∙ ap (λ (b : ℕ). or_bit (bit_of_digit (operator_value operator.Or 1 b) ∷ rest)) f)
 
 step_small : (op : Operator) (k j : ℕ) → (k ≡ 0) ⊎ (k ≡ 1) → (j ≡ 0) ⊎ (j ≡ 1) → operator_value op k j < 2
 step_small op k j hk hj = operator_small op k j (low k hk) (low j hj)
@@ -89,10 +94,10 @@ bits_of v names = map (λ name. bit_of_digit (v name)) names
 abbrev pub AreSmall : Valuation → List (List ℕ) → Type 0
 AreSmall v names = AllByRecursion (λ name. v name < 2) names
 
-and_bits : (v : Valuation) (k : ℕ) (names : List (List ℕ)) → k < 2 → AreSmall v names → and_of (bit_of_digit k ∷ bits_of v names) ≡ bit_of_digit (folded operator.And v k names)
+and_bits : (v : Valuation) (k : ℕ) (names : List (List ℕ)) → k < 2 → AreSmall v names → and_bit (bit_of_digit k ∷ bits_of v names) ≡ bit_of_digit (folded operator.And v k names)
 and_bits v k [] low small = by (IsBit-cases k low)
   where
-    by : (k ≡ 0) ⊎ (k ≡ 1) → and_of (bit_of_digit k ∷ []) ≡ bit_of_digit k
+    by : (k ≡ 0) ⊎ (k ≡ 1) → and_bit (bit_of_digit k ∷ []) ≡ bit_of_digit k
     by (inl e) = rw e refl
     by (inr e) = rw e refl
 and_bits v k (name ∷ names) low small =
@@ -100,10 +105,10 @@ and_bits v k (name ∷ names) low small =
     let hj = IsBit-cases (v name) small.0 in
     and_step k (v name) (bits_of v names) hk hj ∙ and_bits v (operator_value operator.And k (v name)) names (step_small operator.And k (v name) hk hj) small.1
 
-or_bits : (v : Valuation) (k : ℕ) (names : List (List ℕ)) → k < 2 → AreSmall v names → or_of (bit_of_digit k ∷ bits_of v names) ≡ bit_of_digit (folded operator.Or v k names)
+or_bits : (v : Valuation) (k : ℕ) (names : List (List ℕ)) → k < 2 → AreSmall v names → or_bit (bit_of_digit k ∷ bits_of v names) ≡ bit_of_digit (folded operator.Or v k names)
 or_bits v k [] low small = by (IsBit-cases k low)
   where
-    by : (k ≡ 0) ⊎ (k ≡ 1) → or_of (bit_of_digit k ∷ []) ≡ bit_of_digit k
+    by : (k ≡ 0) ⊎ (k ≡ 1) → or_bit (bit_of_digit k ∷ []) ≡ bit_of_digit k
     by (inl e) = rw e refl
     by (inr e) = rw e refl
 or_bits v k (name ∷ names) low small =
@@ -111,27 +116,27 @@ or_bits v k (name ∷ names) low small =
     let hj = IsBit-cases (v name) small.0 in
     or_step k (v name) (bits_of v names) hk hj ∙ or_bits v (operator_value operator.Or k (v name)) names (step_small operator.Or k (v name) hk hj) small.1
 
-not_bit : (k : ℕ) → k < 2 → not_of (bit_of_digit k) ≡ bit_of_digit (1 - k)
-not_bit k low = by (IsBit-cases k low)
+not_bit-digit : (k : ℕ) → k < 2 → not_bit (bit_of_digit k) ≡ bit_of_digit (1 - k)
+not_bit-digit k low = by (IsBit-cases k low)
   where
-    by : (k ≡ 0) ⊎ (k ≡ 1) → not_of (bit_of_digit k) ≡ bit_of_digit (1 - k)
+    by : (k ≡ 0) ⊎ (k ≡ 1) → not_bit (bit_of_digit k) ≡ bit_of_digit (1 - k)
     by (inl e) = rw e refl
     by (inr e) = rw e refl
 
 -- the bit that a gate answers to the bits of its inputs
 abbrev pub gate_bit : Cell → List Bit → Bit
 gate_bit cell.Not [] = Error
-gate_bit cell.Not (b ∷ bits) = not_of b
-gate_bit cell.And bits = and_of bits
-gate_bit cell.Or bits = or_of bits
+gate_bit cell.Not (b ∷ bits) = not_bit b
+gate_bit cell.And bits = and_bit bits
+gate_bit cell.Or bits = or_bit bits
 
 pub gate_bit-number : (c : Cell) (v : Valuation) (name : List ℕ) (names : List (List ℕ)) → AreSmall v (name ∷ names) → gate_bit c (bits_of v (name ∷ names)) ≡ bit_of_digit (gate_number c v name names)
-gate_bit-number cell.Not v name names small = not_bit (v name) small.0
+gate_bit-number cell.Not v name names small = not_bit-digit (v name) small.0
 gate_bit-number cell.And v name names small = and_bits v (v name) names small.0 small.1
 gate_bit-number cell.Or v name names small = or_bits v (v name) names small.0 small.1
 
 -- words of one bit each
-words_of : (value : ℕ → Bit) (nets : List ℕ) → filter_map (λ (w : Option (List Bit)). w) (map (word_at value) (map single nets)) ≡ map (λ (net : ℕ). value net ∷ []) nets
+words_of : (value : ℕ → Bit) (nets : List ℕ) → attached (map (word_at value) (map single nets)) ≡ map (λ (net : ℕ). value net ∷ []) nets
 words_of value [] = refl
 words_of value (net ∷ nets) = ap (λ (ws : List (List Bit)). (value net ∷ []) ∷ ws) (words_of value nets)
 
@@ -139,12 +144,14 @@ firsts_of : (value : ℕ → Bit) (nets : List ℕ) → bits_at 0 (map (λ (net 
 firsts_of value [] = refl
 firsts_of value (net ∷ nets) = ap (λ (bs : List Bit). value net ∷ bs) (firsts_of value nets)
 
-wide : (gate : List Bit → Bit) (value : ℕ → Bit) (first : ℕ) (more : List ℕ)
-    → bitwise gate 1 (filter_map (λ (w : Option (List Bit)). w) (map (word_at value) (map single (first ∷ more)))) ≡ gate (map value (first ∷ more)) ∷ []
-wide gate value first more = ap (bitwise gate 1) (words_of value (first ∷ more)) ∙ ap (λ (bs : List Bit). gate bs ∷ []) (firsts_of value (first ∷ more))
+wide : (k : GateKind) (value : ℕ → Bit) (first : ℕ) (more : List ℕ)
+    → gate_word k 1 (map (word_at value) (map single (first ∷ more))) false ≡ gates.gate_bit k (map value (first ∷ more)) ∷ []
+wide k value first more =
+    gate_word-loose k 1 (map (word_at value) (map single (first ∷ more)))
+    ∙ (ap (loose_word k 1) (words_of value (first ∷ more)) ∙ ap (λ (bs : List Bit). gates.gate_bit k bs ∷ []) (firsts_of value (first ∷ more)))
 
--- the word that a gate answers to inputs on these nets
-pub gate_word-bit : (c : Cell) (value : ℕ → Bit) (first : ℕ) (more : List ℕ) → (c ≡ cell.Not → more ≡ []) → gate_word c 1 (map (word_at value) (map single (first ∷ more))) ≡ gate_bit c (map value (first ∷ more)) ∷ []
-gate_word-bit cell.Not value first more alone = rw (alone refl) refl
-gate_word-bit cell.And value first more alone = wide and_of value first more
-gate_word-bit cell.Or value first more alone = wide or_of value first more
+-- the word that a cell answers to inputs on these nets
+pub cell_word-bit : (c : Cell) (value : ℕ → Bit) (first : ℕ) (more : List ℕ) → (c ≡ cell.Not → more ≡ []) → cell_word c 1 (map (word_at value) (map single (first ∷ more))) ≡ gate_bit c (map value (first ∷ more)) ∷ []
+cell_word-bit cell.Not value first more alone = rw (alone refl) refl
+cell_word-bit cell.And value first more alone = wide kind.And value first more
+cell_word-bit cell.Or value first more alone = wide kind.Or value first more

@@ -6,12 +6,12 @@ use Rattle.std.proofs.lemmas.List.Elements.{All-cons, All-nil, All-head, All-tai
 use Rattle.lg_netlist.specs.declared.netlist.PartUse.{PartUse}
 use Rattle.lg_netlist.specs.declared.netlist.PinUse.{PinUse}
 use Rattle.lg_netlist.specs.declared.netlist.Netlist.{Netlist}
-use Rattle.lg_netlist.specs.Valid.{AreNets, IsPort, IsFittingPart, IsFittingPin, IsValid}
+use Rattle.lg_netlist.specs.Valid.{AreNets, IsPort, IsFittingPart, IsFittingPin}
 use Rattle.lg_netlist.specs.OneGate.{driven_by_parts, driven_by_pins, driven, is_one_gate}
 use Rattle.lg_netlist.specs.Static.{data_pins, input_pins, output_pins}
 use Rattle.lg_export.specs.Layout.{input_name, output_wire, output_drivers, part_drivers, drivers}
 use Rattle.lg_export.specs.Readable.{IsNamed, IsDriven, IsReadable, IsFed, CanBeLaidOut}
-use Rattle.lg_export.proofs.Simple.{IsNetIn, IsNetIn-right, single, IsSimple, IsPinOn, IsPlain-from}
+use Rattle.lg_export.proofs.OneGateShape.{IsNetIn, IsNetIn-right, single, IsSimple, IsPinOn, IsOneGateShape-from}
 use Rattle.lg_export.proofs.Driving.{Entry, nets_of, pins_drive, nets_of-drivers}
 use Rattle.lg_export.proofs.Ordered.{attached-is}
 
@@ -76,15 +76,15 @@ named_pins : (nets : ℕ) (pins : List PinUse) → All (IsFittingPin nets) pins 
 named_pins nets pins h = All-weaker (IsFittingPin nets) IsNamed (λ (p : PinUse) (fits : IsFittingPin nets p). fits.named) pins h
 
 -- such a netlist can be laid out
-pub CanBeLaidOut-one_gate : (n : Netlist) → IsValid n → is_one_gate n ≡ true → CanBeLaidOut n
-CanBeLaidOut-one_gate n valid one =
-    let plain = IsPlain-from n valid one in
+pub CanBeLaidOut-one_gate : (n : Netlist) → is_one_gate n ≡ true → CanBeLaidOut n
+CanBeLaidOut-one_gate n one =
+    let plain = IsOneGateShape-from n one in
     let nets = nets_of-drivers n plain in
     let on_driven : (net : ℕ) → IsNetIn (driven n) net → IsDriven (drivers n) net = λ net h. driven_net (drivers n) net (subst (λ (ns : List ℕ). IsNetIn ns net) (sym nets) h) in
     record {
-      named = All-same IsNamed (data_pins n) n.pins plain.data_pins_are (named_pins n.nets n.pins valid.pins);
-      within = All-append (λ (d : Entry). d.0 < n.nets) (part_drivers 0 n.parts) (pins_drive (input_pins n)) (below_parts n.nets 0 n.parts valid.parts)
-          (below_pins n.nets (input_pins n) (All-same (IsFittingPin n.nets) (input_pins n) (filter (λ (p : PinUse). p.input) n.pins) plain.input_pins_are (All-filter (λ (p : PinUse). p.input) (IsFittingPin n.nets) n.pins valid.pins)));
+      named = All-same IsNamed (data_pins n) n.pins plain.data_pins_are (named_pins n.nets n.pins n.valid.pins_fit);
+      within = All-append (λ (d : Entry). d.0 < n.nets) (part_drivers 0 n.parts) (pins_drive (input_pins n)) (below_parts n.nets 0 n.parts n.valid.parts_fit)
+          (below_pins n.nets (input_pins n) (All-same (IsFittingPin n.nets) (input_pins n) (filter (λ (p : PinUse). p.input) n.pins) plain.input_pins_are (All-filter (λ (p : PinUse). p.input) (IsFittingPin n.nets) n.pins n.valid.pins_fit)));
       fed = fed_parts (drivers n) (driven_by_pins n.pins) n.parts plain.parts (λ net h. on_driven net (IsNetIn-right (driven_by_parts n.parts) (driven_by_pins n.pins) net h));
       read = read_pins (drivers n) (driven n) (output_pins n) plain.outputs on_driven;
     }

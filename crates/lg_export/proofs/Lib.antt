@@ -1,8 +1,8 @@
 pub mod LayoutLemmas
 pub mod NameLemmas
-pub mod Forms
+pub mod EquationValues
 pub mod WireNames
-pub mod Simple
+pub mod OneGateShape
 pub mod Driving
 pub mod Ordered
 pub mod Declared
@@ -10,7 +10,6 @@ pub mod Gates
 pub mod Agreeing
 pub mod PlaceLemmas
 pub mod LaidOut
-pub mod OneNot
 pub mod NetBits
 pub mod SettlesSoon
 pub mod Tables

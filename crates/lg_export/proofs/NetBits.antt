@@ -2,7 +2,7 @@
 use Rattle.std.proofs.Common.{◌≡◌, ℕ, ◌+◌, Bool, true, false, not, ◌||◌, ◌-◌, List, [], ◌∷◌, ◌++◌, map, Option, Some, eq-eqb, refl, sym, ap, subst, ◌∙◌, inl, inr, ◌⊎◌, if◌then◌else◌}
 use Rattle.std.specs.Prelude.{◌==◌, slice_get}
 use Rattle.std.specs.List.{AllByRecursion, flat_map, enumerate_from}
-use Rattle.std.proofs.lemmas.Bool.{eqb-true, false≢true}
+use Rattle.std.proofs.lemmas.Bool.{eqb-true, false≢true, or_right}
 use Rattle.std.proofs.lemmas.List.{append-nil}
 use Rattle.lg_value.specs.declared.bit.Bit.{Bit}
 use Rattle.lg_value.specs.declared.bit.Bit.TheVariants.{Unknown}
@@ -14,11 +14,11 @@ use Rattle.lg_netlist.specs.declared.netlist.Cell.TheVariants as cell
 use Rattle.lg_netlist.specs.declared.netlist.PartUse.{PartUse}
 use Rattle.lg_netlist.specs.declared.netlist.PinUse.{PinUse}
 use Rattle.lg_netlist.specs.OneGate.{is_among, all_differ}
-use Rattle.lg_netlist.specs.Cell.{gate_word}
+use Rattle.lg_netlist.specs.Cell.{cell_word}
 use Rattle.lg_netlist.specs.Static.{word_at}
 use Rattle.lg_sim.specs.InTime.{delay_of, port_of, given, part_of}
-use Rattle.lg_export.proofs.Simple.{both_hold, single, IsSimple, IsPinOn, IsLoose}
-use Rattle.lg_export.proofs.Gates.{gate_bit, gate_word-bit}
+use Rattle.lg_export.proofs.OneGateShape.{both_hold, single, IsSimple, IsPinOn, IsLoose}
+use Rattle.lg_export.proofs.Gates.{gate_bit, cell_word-bit}
 
 -- a net and a bit that drives it
 abbrev pub Drive : Type 0
@@ -53,10 +53,6 @@ pick-append net (x ∷ xs) ys = by (x.0 == net) (pick-append net xs ys)
         → (if t then x.1 ∷ pick net (xs ++ ys) else pick net (xs ++ ys)) ≡ (if t then x.1 ∷ pick net xs else pick net xs) ++ pick net ys
     by true e = ap (λ (bits : List Bit). x.1 ∷ bits) e
     by false e = e
-
-or_right : (a b : Bool) → b ≡ true → (a || b) ≡ true
-or_right true b h = refl
-or_right false b h = h
 
 among_drive : (drives : List Drive) (net : ℕ) (bit : Bit) → IsDrive drives net bit → is_among (keys drives) net ≡ true
 among_drive [] net bit h = absurd h
@@ -112,10 +108,10 @@ words_given nets [] = refl
 words_given nets (n ∷ ns) = ap (λ (ws : List (Option Word)). Some (nets n ∷ []) ∷ ws) (words_given nets ns)
 
 answered_is : (last : Instant) (k : ℕ) (on : List ℕ) (p : PartUse) (s : IsSimple on p)
-    → gate_word p.cell 1 (given p.inputs (input_words last.nets (part_of p))) ≡ gate_bit p.cell (map last.nets (s.first ∷ s.more)) ∷ []
+    → cell_word p.cell 1 (given p.inputs (input_words last.nets (part_of p))) ≡ gate_bit p.cell (map last.nets (s.first ∷ s.more)) ∷ []
 answered_is last k on p s =
-    ap (λ (ports : List (List ℕ)). gate_word p.cell 1 (given ports (map (λ (port : Port). time.word_at last.nets port.width port.nets) (map port_of ports)))) s.reads
-    ∙ (ap (gate_word p.cell 1) (words_given last.nets (s.first ∷ s.more)) ∙ gate_word-bit p.cell last.nets s.first s.more s.alone)
+    ap (λ (ports : List (List ℕ)). cell_word p.cell 1 (given ports (map (λ (port : Port). time.word_at last.nets port.width port.nets) (map port_of ports)))) s.reads
+    ∙ (ap (cell_word p.cell 1) (words_given last.nets (s.first ∷ s.more)) ∙ cell_word-bit p.cell last.nets s.first s.more s.alone)
 
 -- the words on a gate's outputs: one word of one bit
 pub outputs_are : (past : List Instant) (k : ℕ) (on : List ℕ) (p : PartUse) (s : IsSimple on p) → output_words past (k, part_of p) ≡ (out_bit past p.cell (s.first ∷ s.more) ∷ []) ∷ []
@@ -123,7 +119,7 @@ outputs_are [] k on p s = ap (λ (ports : List (List ℕ)). time.unknown_words (
 outputs_are (last ∷ past) k on p s =
     let now = delay_one p.cell in
     ap (λ (d : ℕ). time.answered (k, part_of p) (slice_get (last ∷ past) (d - 1))) now
-    ∙ (ap (λ (ports : List (List ℕ)). map (λ (bits : List ℕ). gate_word p.cell 1 (given p.inputs (input_words last.nets (part_of p)))) ports) s.gives
+    ∙ (ap (λ (ports : List (List ℕ)). map (λ (bits : List ℕ). cell_word p.cell 1 (given p.inputs (input_words last.nets (part_of p)))) ports) s.gives
     ∙ ap (λ (w : Word). w ∷ []) (answered_is last k on p s))
 
 -- the first bit of the first word

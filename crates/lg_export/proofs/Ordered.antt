@@ -17,9 +17,9 @@ use Rattle.lg_verilog.specs.declared.module.Module.{Module}
 use Rattle.lg_vmeaning.specs.Meaning.{width_of}
 use Rattle.lg_vmeaning.specs.InOrder.{IsIn, ReadsOnly, IsOneBit, AreInOrder}
 use Rattle.lg_export.specs.Layout.{output_name, input_wire, output_wire, drivers, driver_name, bits_value, attached, equation, part_decls, part_assigns, module_assigns}
-use Rattle.lg_export.proofs.Forms.{AreKnown, ReadsOnly-Whole, IsOneBit-Whole, ReadsOnly-equation, IsOneBit-equation}
+use Rattle.lg_export.proofs.EquationValues.{AreKnown, ReadsOnly-Whole, IsOneBit-Whole, ReadsOnly-equation, IsOneBit-equation}
 use Rattle.lg_export.proofs.WireNames.{initial, initial-input_wire, initial-output_wire, initial-input_name, initial-output_name, apart, input_wire_same, output_wire_same, output_name_same}
-use Rattle.lg_export.proofs.Simple.{IsNetIn, single, IsSimple, IsPinOn, NoneNamed, NamesDiffer, IsPlain}
+use Rattle.lg_export.proofs.OneGateShape.{IsNetIn, single, IsSimple, IsPinOn, NoneNamed, NamesDiffer, IsOneGateShape}
 use Rattle.lg_export.proofs.Driving.{names_in, IsSource, from_pin, from_source}
 
 -- the names of the wires at some inputs, from input i on
@@ -255,7 +255,7 @@ new_outputs pins k known (p ∷ outs) inputs knows = (λ h. by (knows.earlier (o
     by (inr (inl h)) = apart (output_name p) (input_wire h.q h.j) 111 120 (initial-output_name p) (initial-input_wire h.q h.j) refl h.is
     by (inr (inr h)) = apart (output_name p) (output_wire h.q 0) 111 119 (initial-output_name p) (initial-output_wire h.q 0) refl h.is
 
-sources_known : (n : Netlist) (plain : IsPlain n) (known : List (List ℕ)) → Knows (names_in (input_pins n)) (length n.parts) 0 known → (net : ℕ) → IsNetIn (driven n) net → IsIn known (driver_name (drivers n) net)
+sources_known : (n : Netlist) (plain : IsOneGateShape n) (known : List (List ℕ)) → Knows (names_in (input_pins n)) (length n.parts) 0 known → (net : ℕ) → IsNetIn (driven n) net → IsIn known (driver_name (drivers n) net)
 sources_known n plain known knows net h = by (from_source n plain net h)
   where
     by : IsSource (names_in (input_pins n)) (length n.parts) (driver_name (drivers n) net) → IsIn known (driver_name (drivers n) net)
@@ -276,7 +276,7 @@ start pins = record {
 }
 
 -- the equations of a plain netlist's module stand in order, where its wires have one bit
-pub in_order : (n : Netlist) → IsPlain n → (m : Module) → AreWires m (length n.parts) → AreInOrder m (names_in (input_pins n)) (module_assigns n)
+pub in_order : (n : Netlist) → IsOneGateShape n → (m : Module) → AreWires m (length n.parts) → AreInOrder m (names_in (input_pins n)) (module_assigns n)
 in_order n plain m wires =
     let pins = names_in (input_pins n) in
     order_parts m (driven_by_pins n.pins) (drivers n) pins (length n.parts) (inputs_begin (input_pins n)) (from_pin n plain) plain.few_parts wires pins 0 n.parts (map (o_assign (drivers n)) (output_pins n)) (omega arith) plain.parts (start (input_pins n))

@@ -7,7 +7,7 @@ use Rattle.std.proofs.lemmas.Bool.{cases_eq, cases_lt, eqb-true, false≢true}
 use Rattle.std.proofs.lemmas.List.{take_more, take_all, get_or-set_same, get_or-set_other, length-set, get_or-replicate, get_or_past, length-replicate}
 use Rattle.std.proofs.lemmas.List.Folds.{find-append}
 use Rattle.std.proofs.lemmas.List.Elements.{All-head, All-tail, All-weaker}
-use Rattle.std.proofs.lemmas.Option.{slice_get-get_or}
+use Rattle.std.proofs.lemmas.Option.{slice_get-get_or, none-some, same_Some}
 use Rattle.lg_export.specs.Places.{at_place, noted, ArePlaces}
 
 abbrev Entry : Type 0
@@ -26,19 +26,13 @@ none_at nets net = by (cases_lt net nets)
     by (inl less) = get_or-replicate nets net None None less
     by (inr past) = get_or_past (replicate nets None) net None (omega (arith, past, length-replicate nets (let none : Option ℕ = None in none)))
 
-none_is_not : (place : ℕ) → (let none : Option ℕ = None in none) ≡ Some place → ⊥
-none_is_not place e = cc
-
 -- before the first driver nothing has a place
 pub ArePlacesOf-start : (drivers : List Entry) (nets : ℕ) (first : List (Option ℕ)) → first ≡ replicate nets None → ArePlacesOf drivers 0 nets first
 ArePlacesOf-start drivers nets first e = rw e (record {
   as_many = length-replicate nets None;
   found = λ net less. ap (at_place drivers) (none_at nets net);
-  places = λ net place h. absurd (none_is_not place (sym (none_at nets net) ∙ h));
+  places = λ net place h. absurd (none-some place (sym (none_at nets net) ∙ h));
 })
-
-some_is : (a b : ℕ) → Some a ≡ Some b → a ≡ b
-some_is a b e = cc
 
 -- what is found with one driver more
 found_more : (drivers : List Entry) (done net : ℕ) (d : Entry) → done < length drivers → d ≡ get_or drivers done d
@@ -96,7 +90,7 @@ ArePlacesOf-more drivers done nets first d a less is small = by (slice_index_or 
         here = get_or-set_same first d.0 (Some done) None (omega (arith, a.as_many, small))
 
         place_of : (net place : ℕ) → (net ≡ d.0) ⊎ (net ≡ d.0 → ⊥) → slice_index_or (set first d.0 (Some done)) net None ≡ Some place → place < length drivers
-        place_of net place (inl f) h = let same : done ≡ place = some_is done place (sym here ∙ (ap (λ (k : ℕ). slice_index_or (set first d.0 (Some done)) k None) (sym f) ∙ h)) in omega (arith, same, less)
+        place_of net place (inl f) h = let same : done ≡ place = same_Some done place (sym here ∙ (ap (λ (k : ℕ). slice_index_or (set first d.0 (Some done)) k None) (sym f) ∙ h)) in omega (arith, same, less)
         place_of net place (inr ne) h = a.places net place (sym (get_or-set_other first d.0 net (Some done) None ne) ∙ h)
 
         at : (net : ℕ) → net < nets → (net ≡ d.0) ⊎ (net ≡ d.0 → ⊥)

@@ -17,13 +17,13 @@ use Rattle.lg_netlist.specs.declared.netlist.PartUse.{PartUse}
 use Rattle.lg_netlist.specs.declared.netlist.PinUse.{PinUse}
 use Rattle.lg_netlist.specs.declared.netlist.Netlist.{Netlist}
 use Rattle.lg_netlist.specs.OneGate.{driven_by_parts, driven_by_pins, driven, all_differ}
-use Rattle.lg_netlist.specs.Cell.{gate_word}
+use Rattle.lg_netlist.specs.Cell.{cell_word}
 use Rattle.lg_netlist.specs.Static as static
 use Rattle.lg_netlist.specs.Static.{input_pins, output_pins, word_on, Carries, PartCarries, AreStaticValues}
-use Rattle.lg_sim.specs.InTime.{part_of, circuit_of}
-use Rattle.lg_export.proofs.Simple.{IsNetIn, single, IsSimple, IsPinOn, IsLoose, IsPlain}
+use Rattle.lg_sim.specs.InTime.{bits_at, part_of, circuit_of}
+use Rattle.lg_export.proofs.OneGateShape.{IsNetIn, single, IsSimple, IsPinOn, IsLoose, IsOneGateShape}
 use Rattle.lg_export.proofs.Driving.{split_net}
-use Rattle.lg_export.proofs.Gates.{gate_bit, gate_word-bit}
+use Rattle.lg_export.proofs.Gates.{gate_bit, cell_word-bit}
 use Rattle.lg_export.proofs.NetBits.{Drive, keys, pick, IsDrive, IsDrive-left, IsDrive-right, pick-one, out_bit, outputs_are, first_bit, part_drives, bit_of_word, pin_drives, parts_pick, pins_pick, pick-append, AreBitsFor}
 
 -- the bit of one driver is the net's bit
@@ -73,10 +73,11 @@ all_drives n s past = part_drives past 0 n.parts ++ pin_drives (input_pins n) s.
 two_lists : (a a' b b' : List Bit) → a ≡ a' → b ≡ b' → a ++ b ≡ a' ++ b'
 two_lists a a' b b' e f = cc
 
-pub no_clock : (n : Netlist) → IsPlain n → (circuit_of n).clocks ≡ []
-no_clock n plain = rw (plain.no_clocks, plain.no_clock_pin) refl
+pub no_clock : (n : Netlist) → IsOneGateShape n → (circuit_of n).clocks ≡ []
+no_clock n plain =
+    ap (λ (clocks : List (ℕ × List ℕ)). map (λ (c : ℕ × List ℕ). c.0) clocks ++ bits_at n.pins n.clock_pin) plain.no_clocks ∙ ap (bits_at n.pins) plain.no_clock_pin
 
-drivers_are : (n : Netlist) → IsPlain n → (s : Stimulus) (past : List Instant) (net : ℕ) → AreBitsFor (input_pins n) s.words → drivers_of (circuit_of n) s past net ≡ pick net (all_drives n s past)
+drivers_are : (n : Netlist) → IsOneGateShape n → (s : Stimulus) (past : List Instant) (net : ℕ) → AreBitsFor (input_pins n) s.words → drivers_of (circuit_of n) s past net ≡ pick net (all_drives n s past)
 drivers_are n plain s past net bits =
     let clocks : List ℕ → List Bit = λ cs. time.bits_on net cs (replicate (length cs) s.clock) in
     let parts = flat_map (λ (p : Numbered). time.words_on net (map (λ (port : Port). port.nets) p.1.outputs) (output_words past p)) (numbered_parts (circuit_of n)) in
@@ -87,14 +88,14 @@ drivers_are n plain s past net bits =
     (parts_pick net past (driven_by_pins n.pins) 0 n.parts plain.parts) (pins_pick net (driven_by_pins n.pins) (input_pins n) s.words plain.inputs bits)
     ∙ sym (pick-append net (part_drives past 0 n.parts) (pin_drives (input_pins n) s.words))))
 
-keys_are : (n : Netlist) → IsPlain n → (s : Stimulus) (past : List Instant) → AreBitsFor (input_pins n) s.words → keys (all_drives n s past) ≡ driven n
+keys_are : (n : Netlist) → IsOneGateShape n → (s : Stimulus) (past : List Instant) → AreBitsFor (input_pins n) s.words → keys (all_drives n s past) ≡ driven n
 keys_are n plain s past bits =
     keys-append (part_drives past 0 n.parts) (pin_drives (input_pins n) s.words)
     ∙ two_nets (keys (part_drives past 0 n.parts)) (driven_by_parts n.parts) (keys (pin_drives (input_pins n) s.words)) (driven_by_pins n.pins) (keys-parts past 0 n.parts)
     (keys-pins (input_pins n) s.words bits ∙ ap (flat_map (λ (p : PinUse). p.bits)) plain.input_pins_are)
 
 -- a driven net carries what drives it
-carries : (n : Netlist) → IsPlain n → (s : Stimulus) (past : List Instant) (net : ℕ) (bit : Bit) → AreBitsFor (input_pins n) s.words → IsDrive (all_drives n s past) net bit → net_bit (circuit_of n) s past net ≡ bit
+carries : (n : Netlist) → IsOneGateShape n → (s : Stimulus) (past : List Instant) (net : ℕ) (bit : Bit) → AreBitsFor (input_pins n) s.words → IsDrive (all_drives n s past) net bit → net_bit (circuit_of n) s past net ≡ bit
 carries n plain s past net bit bits here =
     ap (λ (drivers : List Bit). or_else (join_of_drivers drivers) (join_of_drivers []))
     (drivers_are n plain s past net bits ∙ pick-one (all_drives n s past) net bit (subst (λ (nets : List ℕ). all_differ nets ≡ true) (sym (keys_are n plain s past bits)) plain.drivers_differ) here)
@@ -190,7 +191,7 @@ parts_say value past states on k [] simple same drive = tt
 parts_say value past states on k (p ∷ parts) simple same drive =
     let s = simple.0 in
     let here = flat_map (λ (bits : List ℕ). map (λ j. (j, first_bit (shown past k p))) bits) p.outputs in (
-      subst (λ (ports : List (List ℕ)). AllByRecursion (λ (bits : List ℕ). Carries value bits (gate_word p.cell (length bits) (map (static.word_at value) p.inputs))) ports) (sym s.gives)
+      subst (λ (ports : List (List ℕ)). AllByRecursion (λ (bits : List ℕ). Carries value bits (cell_word p.cell (length bits) (map (static.word_at value) p.inputs))) ports) (sym s.gives)
           (by s.output s.loose (λ net e. drive net (out_bit past p.cell (s.first ∷ s.more)) (IsDrive-left here (part_drives past (k + 1) parts) net (out_bit past p.cell (s.first ∷ s.more)) (entry net e))), tt),
       parts_say value past states on (k + 1) parts simple.1 same.1 (λ net bit h. drive net bit (IsDrive-right here (part_drives past (k + 1) parts) net bit h)),
     )
@@ -206,17 +207,17 @@ parts_say value past states on k (p ∷ parts) simple same drive =
         subst (λ (ports : List (List ℕ)). IsDrive (flat_map (λ (bits : List ℕ). map (λ j. (j, first_bit (shown past k p))) bits) ports) net bit0) (sym s0.gives)
         (subst (λ (out : List ℕ). IsDrive (map (λ j. (j, first_bit (shown past k p))) out ++ []) net bit0) (sym e) (inl (refl, ap first_bit (outputs_are past k on p s0))))
 
-    by : (out : List ℕ) → IsLoose out → ((net : ℕ) → out ≡ single net → value net ≡ bit0) → Carries value out (gate_word p.cell (length out) (map (static.word_at value) p.inputs))
+    by : (out : List ℕ) → IsLoose out → ((net : ℕ) → out ≡ single net → value net ≡ bit0) → Carries value out (cell_word p.cell (length out) (map (static.word_at value) p.inputs))
     by out (inl e) carried = inl e
     by out (inr w) carried =
         let bit : value w.0 ≡ gate_bit p.cell (map value (s0.first ∷ s0.more)) = carried w.0 w.1 ∙ same.0 in
-        let word : gate_word p.cell 1 (map (static.word_at value) p.inputs) ≡ gate_bit p.cell (map value (s0.first ∷ s0.more)) ∷ [] =
-        ap (λ (ports : List (List ℕ)). gate_word p.cell 1 (map (static.word_at value) ports)) s0.reads ∙ gate_word-bit p.cell value s0.first s0.more s0.alone in
-        inr (subst (λ (o : List ℕ). word_on value o ≡ gate_word p.cell (length o) (map (static.word_at value) p.inputs)) (sym w.1) (ap (λ (b : Bit). b ∷ []) bit ∙ sym word))
+        let word : cell_word p.cell 1 (map (static.word_at value) p.inputs) ≡ gate_bit p.cell (map value (s0.first ∷ s0.more)) ∷ [] =
+        ap (λ (ports : List (List ℕ)). cell_word p.cell 1 (map (static.word_at value) ports)) s0.reads ∙ cell_word-bit p.cell value s0.first s0.more s0.alone in
+        inr (subst (λ (o : List ℕ). word_on value o ≡ cell_word p.cell (length o) (map (static.word_at value) p.inputs)) (sym w.1) (ap (λ (b : Bit). b ∷ []) bit ∙ sym word))
 
 -- what is kept of one stimulus on a plain netlist
 pub record Stays (n : Netlist) (stimuli : List Stimulus) (start : ℕ) (s : Stimulus) : Type 0 where
-  pub plain : IsPlain n
+  pub plain : IsOneGateShape n
   pub bits : AreBitsFor (input_pins n) s.words
   pub last : (t : ℕ) → start ≤ t → in_force stimuli t ≡ s
 

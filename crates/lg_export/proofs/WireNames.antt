@@ -3,7 +3,7 @@ use Rattle.std.proofs.Common.{◌≡◌, ℕ, ◌%◌, ◌+◌, ◌^◌, ◌<◌
 use Rattle.std.specs.Prelude.{codes, ◌==◌, nat_le}
 use Rattle.std.specs.List.{list_all}
 use Rattle.std.specs.Fmt.{decimal}
-use Rattle.std.proofs.lemmas.Bool.{false≢true, le-leb}
+use Rattle.std.proofs.lemmas.Bool.{false≢true, le-leb, and_from}
 use Rattle.std.proofs.lemmas.Fmt.{decimal_injective, decimal_by_steps}
 use Rattle.std.proofs.lemmas.List.{append_cancel_left}
 use Rattle.std.proofs.lemmas.List.Folds.{list_all-append}
@@ -20,9 +20,6 @@ rest_is a b xs ys e = cc
 abbrev is_digit : ℕ → Bool
 is_digit c = nat_le 48 c && nat_le c 57
 
-both : (a b : Bool) → a ≡ true → b ≡ true → (a && b) ≡ true
-both a b h k = rw (h, k) refl
-
 left_holds : (a b : Bool) → (a && b) ≡ true → a ≡ true
 left_holds true b h = refl
 left_holds false b h = h
@@ -33,12 +30,12 @@ right_holds false true h = refl
 right_holds false false h = h
 
 digit_of : (n : ℕ) → n < 10 → is_digit (48 + n) ≡ true
-digit_of n h = both (nat_le 48 (48 + n)) (nat_le (48 + n) 57) (le-leb 48 (48 + n) (omega arith)) (le-leb (48 + n) 57 (omega arith))
+digit_of n h = and_from (nat_le 48 (48 + n)) (nat_le (48 + n) 57) (le-leb 48 (48 + n) (omega arith)) (le-leb (48 + n) 57 (omega arith))
 
 digits_of : (n : ℕ) → n < 2 ^ 64 → list_all is_digit (decimal n) ≡ true
 digits_of n h =
-    decimal_by_steps (λ m ds. list_all is_digit ds ≡ true) (λ m small. both (is_digit (48 + m)) true (digit_of m small) refl)
-    (λ m ds big before. list_all-append is_digit ds ((48 + m % 10) ∷ []) ∙ both (list_all is_digit ds) (is_digit (48 + m % 10) && true) before (both (is_digit (48 + m % 10)) true (digit_of (m % 10) (omega arith)) refl)) n h
+    decimal_by_steps (λ m ds. list_all is_digit ds ≡ true) (λ m small. and_from (is_digit (48 + m)) true (digit_of m small) refl)
+    (λ m ds big before. list_all-append is_digit ds ((48 + m % 10) ∷ []) ∙ and_from (list_all is_digit ds) (is_digit (48 + m % 10) && true) before (and_from (is_digit (48 + m % 10)) true (digit_of (m % 10) (omega arith)) refl)) n h
 
 score_is_none : is_digit 95 ≡ true → ⊥
 score_is_none e = false≢true e

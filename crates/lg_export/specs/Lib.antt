@@ -3,4 +3,3 @@ pub mod Readable
 pub mod Places
 pub mod Agreement
 pub mod InTime
-pub mod OneNot

@@ -7,7 +7,6 @@ ghost use Rattle.lg_export.specs.Places.{ArePlaces, noted};
 ghost use Rattle.lg_export.specs.Readable.{IsNamed, IsDriven, IsReadable};
 
 use crate::names::{copy_of, input_name, output_wire};
-use crate::pins::input_pins;
 use lg_netlist::{Netlist, PinUse};
 use lg_verilog::{Expr, Name};
 use sqlite_items::Items;
@@ -107,7 +106,7 @@ fn all_drivers(alloc: Global, netlist: &Netlist) -> Result<Items<Driver>, AllocE
     for (part, used) in netlist.parts.as_slice().iter().enumerate() {
         put_outputs(alloc, &mut found, part, used.outputs.as_slice())?;
     }
-    let inputs = input_pins(alloc, netlist)?;
+    let inputs = netlist.input_pins(alloc)?;
     for pin in &inputs {
         put_pin(alloc, &mut found, pin)?;
     }

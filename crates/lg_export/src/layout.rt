@@ -4,7 +4,6 @@ ghost use Rattle.std.specs.Prelude.{◌≡◌, All, IfOk, IsTrue};
 ghost use Rattle.std.specs.List.{flat_map};
 ghost use Rattle.lg_netlist.specs.Static.{data_pins};
 ghost use Rattle.lg_export.specs.Layout.{numbered, part_decls, module_ports, module_assigns, module_of};
-ghost use Rattle.lg_netlist.specs.Valid.{IsValid};
 ghost use Rattle.lg_netlist.specs.OneGate.{is_one_gate};
 ghost use Rattle.lg_export.specs.Readable.{IsNamed, CanBeLaidOut};
 ghost use Rattle.lg_export.specs.Agreement.{Agrees};
@@ -14,7 +13,6 @@ use crate::drivers::Drivers;
 use crate::fault::NotAccepted;
 use crate::names::{input_name, module_name, output_name};
 use crate::parts::{put_assigns, put_decls};
-use crate::pins::{input_pins, output_pins};
 use lg_netlist::{Netlist, PartUse};
 use lg_verilog::{Assign, Decl, Direction, Module, Port};
 use sqlite_items::Items;
@@ -23,9 +21,8 @@ use std::alloc::{AllocError, Global};
 /// The module of a netlist: a port `i_NAME` or `o_NAME` for each pin, a wire `xP_I` at each attached input I and `wP_O`
 /// at each output O of part P, and an equation for each of these wires and for each output port.
 pub fn export(alloc: Global, netlist: &Netlist) -> Result<Module, NotAccepted>
-    requires valid { IsValid netlist.now }
     // So far: each gate reads input pins alone.
-    requires one_gate { IsTrue (is_one_gate netlist.now) }
+    requires { IsTrue (is_one_gate netlist.now) }
     // Each part has its own wires and equations.
     ensures layout { IfOk result (λ m. m ≡ module_of netlist.now) }
     // On each row of defined inputs the module has exactly one solution, and its outputs are the static values.
@@ -54,7 +51,7 @@ fn ports(alloc: Global, netlist: &Netlist) -> Result<Items<Port>, AllocError>
     ensures { IfOk result (λ ports. ports ≡ module_ports netlist.now) }
 {
     let mut ports = Items::new(alloc);
-    let inputs = input_pins(alloc, netlist)?;
+    let inputs = netlist.input_pins(alloc)?;
     for pin in &inputs {
         let name = input_name(alloc, pin)?;
         ports.push(Port {
@@ -63,7 +60,7 @@ fn ports(alloc: Global, netlist: &Netlist) -> Result<Items<Port>, AllocError>
             name,
         })?;
     }
-    let outputs = output_pins(alloc, netlist)?;
+    let outputs = netlist.output_pins(alloc)?;
     for pin in &outputs {
         let name = output_name(alloc, pin)?;
         ports.push(Port {
@@ -94,7 +91,7 @@ fn assigns(alloc: Global, netlist: &Netlist) -> Result<Items<Assign>, AllocError
     for (part, used) in netlist.parts.as_slice().iter().enumerate() {
         put_assigns(alloc, &mut assigns, &drivers, part, used)?;
     }
-    let outputs = output_pins(alloc, netlist)?;
+    let outputs = netlist.output_pins(alloc)?;
     for pin in &outputs {
         let name = output_name(alloc, pin)?;
         let value = drivers.bits_value(alloc, pin.bits.as_slice())?;

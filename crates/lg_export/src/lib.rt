@@ -6,7 +6,6 @@ mod fault;
 mod layout;
 mod names;
 mod parts;
-mod pins;
 
 pub use fault::NotAccepted;
 pub use layout::export;

@@ -1,5 +1,6 @@
 -- What is known of taken names, when a name and a next number come to it.
 use Rattle.std.proofs.Common.{◌≡◌, ℕ, ◌+◌, ◌<◌, ◌≤◌, Bool, true, false, cond, ◌||◌, List, [], ◌∷◌, ◌++◌, length, Option, Some, is_some, Result, Ok, Err, refl, sym, ap, subst, ◌∙◌, arith, inl, inr, ◌⊎◌}
+use Rattle.std.proofs.lemmas.Option.{same_Some}
 use Rattle.std.specs.Prelude.{IfOk}
 use Rattle.std.specs.Map.{update}
 use Rattle.std.specs.Str.{bytes_eq}
@@ -12,9 +13,6 @@ use Rattle.lg_netlist.specs.NextNumbers.{IsTriedTo, KnowsTaken, IsFirstFreeNumbe
 
 abbrev some : ℕ → Option ℕ
 some n = Some n
-
-some_is : (m n : ℕ) → some m ≡ some n → m ≡ n
-some_is m n e = cc
 
 or_left : (a b : Bool) → a ≡ true → (a || b) ≡ true
 or_left true b e = refl
@@ -60,7 +58,7 @@ known_more false false old e = e
 
 tried_more : (taken : List (List ℕ)) (found name : List ℕ) (n : ℕ) (here : Bool) (old : Option ℕ) → (old ≡ some n → IsTriedTo taken name n) → cond here (some 2) old ≡ some n
     → IsTriedTo (taken ++ found ∷ []) name n
-tried_more taken found name n true old t e = not_tried (taken ++ found ∷ []) name n (some_is 2 n e)
+tried_more taken found name n true old t e = not_tried (taken ++ found ∷ []) name n (same_Some 2 n e)
 tried_more taken found name n false old t e = still_tried taken found name n (t e)
 
 -- one name more is taken, for which no number was tried
@@ -82,7 +80,7 @@ known_set taken name q n false old e t k = k
 tried_set : (taken : List (List ℕ)) (name q : List ℕ) (n m : ℕ) (here : Bool) (old : Option ℕ) → bytes_eq name q ≡ here → IsTriedTo taken name n → (old ≡ some m → IsTriedTo taken q m)
     → cond here (some n) old ≡ some m → IsTriedTo taken q m
 tried_set taken name q n m true old e t others h =
-    subst (λ (k : ℕ). IsTriedTo taken q k) (some_is n m h) (subst (λ (x : List ℕ). IsTriedTo taken x n) ((bytes_eq-Decides name q).0 e) t)
+    subst (λ (k : ℕ). IsTriedTo taken q k) (same_Some n m h) (subst (λ (x : List ℕ). IsTriedTo taken x n) ((bytes_eq-Decides name q).0 e) t)
 tried_set taken name q n m false old e t others h = others h
 
 -- a taken name gets another next number

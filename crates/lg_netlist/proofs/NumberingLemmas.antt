@@ -3,7 +3,7 @@ use Rattle.std.proofs.Common.{◌≡◌, ℕ, ◌+◌, ◌<◌, ◌≤◌, List,
 use Rattle.std.specs.Prelude.{replicate}
 use Rattle.std.proofs.lemmas.Bool.{cases_lt, cases_eq}
 use Rattle.std.proofs.lemmas.List.{get_or-set_same, get_or-set_other, get_or_append_left, get_or_push, get_or-replicate, get_or_past, length-append, length-replicate, length-set}
-use Rattle.std.proofs.lemmas.Option.{get_or_from_slice_get, slice_get_within}
+use Rattle.std.proofs.lemmas.Option.{get_or_from_slice_get, slice_get_within, same_Some}
 use Rattle.lg_netlist.specs.Numbering.{IsNumbering, NumbersNext}
 
 -- the first labels have numbers below count, and known has the number of each label among them and of no other
@@ -19,9 +19,6 @@ pub record AreNumbered (bound : ℕ) (labels : List ℕ) (done : ℕ) (known : L
 
 abbrev some : ℕ → Option ℕ
 some n = Some n
-
-some_is : (m n : ℕ) → some m ≡ some n → m ≡ n
-some_is m n e = cc
 
 none_is_not : (n : ℕ) → some n ≡ None → ⊥
 none_is_not n e = cc
@@ -103,7 +100,7 @@ other_label known label count b ne = get_or-set_other known label b (some count)
 below_at : (known : List (Option ℕ)) (label count : ℕ) → ((b n : ℕ) → get_or known b None ≡ some n → n < count) → get_or (set known label (some count)) label None ≡ some count
     → (b n : ℕ) → get_or (set known label (some count)) b None ≡ some n → (b ≡ label) ⊎ (b ≡ label → ⊥) → n < count + 1
 below_at known label count below here b n h (inl e) =
-    let same : count ≡ n = some_is count n (sym here ∙ (ap (λ l. get_or (set known label (some count)) l None) (sym e) ∙ h)) in
+    let same : count ≡ n = same_Some count n (sym here ∙ (ap (λ l. get_or (set known label (some count)) l None) (sym e) ∙ h)) in
     omega arith
 below_at known label count below here b n h (inr ne) =
     let old : n < count = below b n (sym (other_label known label count b ne) ∙ h) in
@@ -116,11 +113,11 @@ one_at : (known : List (Option ℕ)) (label count : ℕ) → ((b c n : ℕ) → 
     → (b ≡ label) ⊎ (b ≡ label → ⊥) → (c ≡ label) ⊎ (c ≡ label → ⊥) → b ≡ c
 one_at known label count one below here b c n h k (inl e) (inl d) = e ∙ sym d
 one_at known label count one below here b c n h k (inl e) (inr nd) =
-    let same : count ≡ n = some_is count n (sym here ∙ (ap (λ l. get_or (set known label (some count)) l None) (sym e) ∙ h)) in
+    let same : count ≡ n = same_Some count n (sym here ∙ (ap (λ l. get_or (set known label (some count)) l None) (sym e) ∙ h)) in
     let old : n < count = below c n (sym (other_label known label count c nd) ∙ k) in
     absurd (omega arith)
 one_at known label count one below here b c n h k (inr ne) (inl d) =
-    let same : count ≡ n = some_is count n (sym here ∙ (ap (λ l. get_or (set known label (some count)) l None) (sym d) ∙ k)) in
+    let same : count ≡ n = same_Some count n (sym here ∙ (ap (λ l. get_or (set known label (some count)) l None) (sym d) ∙ k)) in
     let old : n < count = below b n (sym (other_label known label count b ne) ∙ h) in
     absurd (omega arith)
 one_at known label count one below here b c n h k (inr ne) (inr nd) =
@@ -177,7 +174,7 @@ IsNumbering-from_all bound labels numbers known count a = record {
       let j_in = slice_get_within labels j y at_j in
       let i_is : get_or known x None ≡ some (get_or numbers i 0) = ap (λ l. get_or known l None) (sym (get_or_from_slice_get labels i x 0 at_i)) ∙ a.of_label i i_in in
       let j_is : get_or known y None ≡ some (get_or numbers j 0) = ap (λ l. get_or known l None) (sym (get_or_from_slice_get labels j y 0 at_j)) ∙ a.of_label j j_in in
-      (λ e. a.one_label x y (get_or numbers j 0) (i_is ∙ ap some e) j_is, λ e. some_is (get_or numbers i 0) (get_or numbers j 0) (sym i_is ∙ (ap (λ l. get_or known l None) e ∙ j_is)));
+      (λ e. a.one_label x y (get_or numbers j 0) (i_is ∙ ap some e) j_is, λ e. same_Some (get_or numbers i 0) (get_or numbers j 0) (sym i_is ∙ (ap (λ l. get_or known l None) e ∙ j_is)));
   below = λ i less. a.below (get_or labels i 0) (get_or numbers i 0) (a.of_label i (omega (arith, a.one_each)));
   in_order = λ i n less low. a.in_order i n (omega (arith, a.one_each)) low;
   all_appear = λ n less. let w = a.all_appear n less in (w.0, omega (arith, w.1, a.one_each), w.2);

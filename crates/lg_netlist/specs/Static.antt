@@ -7,7 +7,7 @@ use Rattle.lg_value.specs.Word.{IsDefined}
 use Rattle.lg_netlist.specs.declared.netlist.PartUse.{PartUse}
 use Rattle.lg_netlist.specs.declared.netlist.PinUse.{PinUse}
 use Rattle.lg_netlist.specs.declared.netlist.Netlist.{Netlist}
-use Rattle.lg_netlist.specs.Cell.{gate_word}
+use Rattle.lg_netlist.specs.Cell.{cell_word}
 
 -- the pins without the clock pin
 abbrev pub data_pins : Netlist → List PinUse
@@ -40,7 +40,7 @@ Carries value bits word = (bits ≡ []) ⊎ (word_on value bits ≡ word)
 -- a part's outputs carry what it answers to its inputs
 abbrev pub PartCarries : (ℕ → Bit) → PartUse → Type 0
 PartCarries value p =
-    AllByRecursion (λ bits. Carries value bits (gate_word p.cell (length bits) (map (word_at value) p.inputs))) p.outputs
+    AllByRecursion (λ bits. Carries value bits (cell_word p.cell (length bits) (map (word_at value) p.inputs))) p.outputs
 
 -- these are the values of the nets: an input pin gives its word, and a part its answer to the values of its inputs
 pub record AreStaticValues (n : Netlist) (row : List (List Bit)) (value : ℕ → Bit) : Type 0 where

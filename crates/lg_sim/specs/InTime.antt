@@ -7,7 +7,7 @@ use Rattle.lg_netlist.specs.declared.netlist.Cell.TheVariants.{Not, And, Or}
 use Rattle.lg_netlist.specs.declared.netlist.PartUse.{PartUse}
 use Rattle.lg_netlist.specs.declared.netlist.PinUse.{PinUse}
 use Rattle.lg_netlist.specs.declared.netlist.Netlist.{Netlist}
-use Rattle.lg_netlist.specs.Cell.{gate_word}
+use Rattle.lg_netlist.specs.Cell.{cell_word}
 use Rattle.lg_netlist.specs.Static.{input_pins, output_pins}
 
 -- how many instants after its inputs a cell shows its output
@@ -34,20 +34,17 @@ part_of p = record {
   outputs = map port_of p.outputs;
   start = [];
   step = λ state before now. [];
-  out = λ state words. map (λ (bits : List ℕ). gate_word p.cell 1 (given p.inputs words)) p.outputs;
+  out = λ state words. map (λ (bits : List ℕ). cell_word p.cell 1 (given p.inputs words)) p.outputs;
 }
 
--- the nets of the clock pin
-abbrev pub clock_pin_bits : Netlist → List ℕ
-clock_pin_bits n = bits_at n.clock_pin
+-- the nets of the pin at a place among these, if there is one
+abbrev pub bits_at : List PinUse → Option ℕ → List ℕ
+bits_at pins None = []
+bits_at pins (Some place) = bits_of (slice_get pins place)
   where
-    pin_bits : Option PinUse → List ℕ
-    pin_bits None = []
-    pin_bits (Some pin) = pin.bits
-
-    bits_at : Option ℕ → List ℕ
-    bits_at None = []
-    bits_at (Some place) = pin_bits (slice_get n.pins place)
+    bits_of : Option PinUse → List ℕ
+    bits_of None = []
+    bits_of (Some pin) = pin.bits
 
 -- the circuit that a netlist is; pull resistors are still to come
 abbrev pub circuit_of : Netlist → Circuit
@@ -56,5 +53,5 @@ circuit_of n = record {
   pulls = [];
   pins = map (λ (p : PinUse). p.bits) (input_pins n);
   outputs = map (λ (p : PinUse). p.bits) (output_pins n);
-  clocks = map (λ (c : ℕ × List ℕ). c.0) n.clocks ++ clock_pin_bits n;
+  clocks = map (λ (c : ℕ × List ℕ). c.0) n.clocks ++ bits_at n.pins n.clock_pin;
 }

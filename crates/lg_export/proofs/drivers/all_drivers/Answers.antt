@@ -6,7 +6,8 @@ use Rattle.lg_netlist.specs.declared.netlist.PinUse.{PinUse}
 use Rattle.lg_netlist.specs.Static.{data_pins, input_pins}
 use Rattle.lg_export.specs.Layout.{drivers}
 use Rattle.lg_export.specs.Readable.{IsNamed}
-use Rattle.lg_export.proofs.LayoutLemmas.{pointed, pointed-more, pointed-All, pin_drivers}
+use Rattle.lg_netlist.proofs.PinLemmas.{pointed, pointed-more, pointed-All}
+use Rattle.lg_export.proofs.LayoutLemmas.{pin_drivers}
 use Rattle.lg_export.proofs.drivers.all_drivers.Goals as goal
 
 pub put_pin-requires : goal.put_pin-requires

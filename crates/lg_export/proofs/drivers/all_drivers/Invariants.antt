@@ -1,7 +1,8 @@
 use Rattle.std.proofs.Common.{◌≡◌, ◌++◌, drop}
 use Rattle.std.specs.List.{flat_map}
 use Rattle.lg_export.specs.Layout.{part_drivers, drivers}
-use Rattle.lg_export.proofs.LayoutLemmas.{pointed, pin_drivers}
+use Rattle.lg_netlist.proofs.PinLemmas.{pointed}
+use Rattle.lg_export.proofs.LayoutLemmas.{pin_drivers}
 use Rattle.lg_export.proofs.drivers.all_drivers.Given as goal
 
 -- what is found and what is left are all

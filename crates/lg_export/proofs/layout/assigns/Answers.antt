@@ -5,7 +5,7 @@ use Rattle.lg_netlist.specs.declared.netlist.PinUse.{PinUse}
 use Rattle.lg_netlist.specs.Static.{data_pins, output_pins}
 use Rattle.lg_export.specs.Layout.{drivers}
 use Rattle.lg_export.specs.Readable.{IsNamed, IsReadable}
-use Rattle.lg_export.proofs.LayoutLemmas.{pointed, pointed-All}
+use Rattle.lg_netlist.proofs.PinLemmas.{pointed, pointed-All}
 use Rattle.lg_export.proofs.layout.assigns.Goals as goal
 
 pub output_name-requires : goal.output_name-requires

@@ -1,7 +1,8 @@
 use Rattle.std.proofs.Common.{◌≡◌, ◌++◌, map, drop}
 use Rattle.std.specs.List.{flat_map, enumerate_from}
 use Rattle.lg_export.specs.Layout.{numbered, drivers, part_assigns, module_assigns}
-use Rattle.lg_export.proofs.LayoutLemmas.{pointed, output_assign}
+use Rattle.lg_netlist.proofs.PinLemmas.{pointed}
+use Rattle.lg_export.proofs.LayoutLemmas.{output_assign}
 use Rattle.lg_export.proofs.layout.assigns.Given as goal
 
 -- the equations so far and those that are left are all

@@ -10,12 +10,12 @@ use Rattle.lg_export.proofs.Tables.{agrees_in_time}
 use Rattle.lg_export.proofs.layout.export.Goals as goal
 
 pub laid_out-requires : goal.laid_out-requires
-laid_out-requires c = CanBeLaidOut-one_gate c.args.netlist.now c.requires.valid c.requires.one_gate
+laid_out-requires c = CanBeLaidOut-one_gate c.args.netlist.now c.requires
 
 pub returns-clause-agrees : goal.returns-clause-agrees
-returns-clause-agrees c = subst (λ (m : Module). Agrees c.args.netlist.now m) (sym c.in_ok-laid_out.ensures) (agrees c.args.netlist.now c.requires.valid c.requires.one_gate)
+returns-clause-agrees c = subst (λ (m : Module). Agrees c.args.netlist.now m) (sym c.in_ok-laid_out.ensures) (agrees c.args.netlist.now c.requires)
 
 pub returns-clause-in_time : goal.returns-clause-in_time
 returns-clause-in_time c =
     let n = c.args.netlist.now in
-    subst (λ (m : Module). AgreesInTime n m) (sym c.in_ok-laid_out.ensures) (agrees_in_time n (module_of n) c.requires.valid c.requires.one_gate (agrees n c.requires.valid c.requires.one_gate))
+    subst (λ (m : Module). AgreesInTime n m) (sym c.in_ok-laid_out.ensures) (agrees_in_time n (module_of n) c.requires (agrees n c.requires))

@@ -4,7 +4,7 @@ use Rattle.std.proofs.lemmas.List.Elements.{All-filter}
 use Rattle.lg_netlist.specs.declared.netlist.PinUse.{PinUse}
 use Rattle.lg_netlist.specs.Static.{data_pins, input_pins, output_pins}
 use Rattle.lg_export.specs.Readable.{IsNamed}
-use Rattle.lg_export.proofs.LayoutLemmas.{pointed, pointed-All}
+use Rattle.lg_netlist.proofs.PinLemmas.{pointed, pointed-All}
 use Rattle.lg_export.proofs.layout.ports.Goals as goal
 
 pub input_name-requires : goal.input_name-requires

@@ -1,7 +1,8 @@
 use Rattle.std.proofs.Common.{◌≡◌, ◌++◌, map, drop}
 use Rattle.lg_netlist.specs.Static.{input_pins}
 use Rattle.lg_export.specs.Layout.{module_ports}
-use Rattle.lg_export.proofs.LayoutLemmas.{pointed, input_port, output_port}
+use Rattle.lg_netlist.proofs.PinLemmas.{pointed}
+use Rattle.lg_export.proofs.LayoutLemmas.{input_port, output_port}
 use Rattle.lg_export.proofs.layout.ports.Given as goal
 
 -- the ports so far and those that are left are all

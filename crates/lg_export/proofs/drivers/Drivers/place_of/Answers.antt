@@ -1,14 +1,12 @@
 -- A driven net is in the index, with the place of its first driver.
 use Rattle.std.proofs.Common.{◌≡◌, ℕ, ◌<◌, List, Option, Some, None, length, sym, ap, subst, ◌∙◌, arith}
+use Rattle.std.proofs.lemmas.Option.{none-some}
 use Rattle.std.specs.Prelude.{◌==◌, slice_get, slice_index_or, find}
 use Rattle.std.proofs.lemmas.List.{get_or_default}
 use Rattle.lg_export.specs.Places.{at_place}
 use Rattle.lg_export.specs.Readable.{IsDriven}
 use Rattle.lg_export.proofs.PlaceLemmas.{driven_within, driven_found}
 use Rattle.lg_export.proofs.drivers.Drivers.place_of.Goals as goal
-
-none_is_not : (d : ℕ × List ℕ) → (let none : Option (ℕ × List ℕ) = None in none) ≡ Some d → ⊥
-none_is_not d e = cc
 
 pub index-requires : goal.index-requires
 index-requires c =
@@ -25,7 +23,7 @@ unreachable-requires c =
     let none : slice_index_or inside.first.items c.args.net None ≡ None =
     get_or_default inside.first.items c.args.net None c.index.result.now low ∙ (sym c.index.ensures ∙ c.in-None.is) in
     let w = driven_found inside.all c.args.net driven in
-    none_is_not w.0 (sym (ap (at_place inside.all) none) ∙ (c.self.invariant.found c.args.net low ∙ w.1))
+    none-some w.0 (sym (ap (at_place inside.all) none) ∙ (c.self.invariant.found c.args.net low ∙ w.1))
 
 pub returns-clause-within : goal.returns-clause-within
 returns-clause-within c =

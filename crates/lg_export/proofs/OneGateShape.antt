@@ -11,7 +11,7 @@ use Rattle.lg_netlist.specs.declared.netlist.Cell.TheVariants.{Not, And, Or}
 use Rattle.lg_netlist.specs.declared.netlist.PartUse.{PartUse}
 use Rattle.lg_netlist.specs.declared.netlist.PinUse.{PinUse}
 use Rattle.lg_netlist.specs.declared.netlist.Netlist.{Netlist}
-use Rattle.lg_netlist.specs.Valid.{is_pin_name, TakesInputs, IsPort, IsFittingPart, IsFittingPin, IsValid}
+use Rattle.lg_netlist.specs.Valid.{is_pin_name, TakesInputs, IsPort, IsFittingPart, IsFittingPin}
 use Rattle.lg_netlist.specs.OneGate.{driven_by_pins, driven, is_among, all_differ, is_on, is_one_gate, has_no_clock, has_single_drivers, gates_read_pins, outputs_are_driven}
 use Rattle.lg_netlist.specs.Static.{data_pins, input_pins, output_pins}
 
@@ -100,7 +100,7 @@ length-singles [] = refl
 length-singles (net ∷ nets) = ap suc (length-singles nets)
 
 not_alone : (c : Cell) (count : ℕ) → TakesInputs c count → (1 ≤ count) × (count ≤ 64) × (c ≡ Not → count ≡ 1)
-not_alone Not count h = (omega (arith, h), omega (arith, h), λ e. h)
+not_alone Not count h = (h.0, omega (arith, h.1), λ e. omega (arith, h.0, h.1))
 not_alone And count h = (omega (arith, h.0), h.1, λ e. absurd (cc e))
 not_alone Or count h = (omega (arith, h.0), h.1, λ e. absurd (cc e))
 
@@ -221,7 +221,7 @@ outputs_on nets on (p ∷ pins) fits h =
         rw e (record { net = on_net.0; bits = on_net.1; among = on_net.2; named = (All-head (IsFittingPin nets) p pins fits).named }, rest)
 
 -- all that the proofs use of a one-gate netlist
-pub record IsPlain (n : Netlist) : Type 0 where
+pub record IsOneGateShape (n : Netlist) : Type 0 where
   pub few_parts : length n.parts < 2 ^ 32
   pub parts : AllByRecursion (IsSimple (driven_by_pins n.pins)) n.parts
   pub inputs : AllByRecursion (IsPinOn (driven_by_pins n.pins)) (input_pins n)
@@ -249,8 +249,8 @@ none_is : {A : Type 0} (o : Option A) → is_none o ≡ true → o ≡ None
 none_is None h = refl
 none_is (Some x) h = absurd (false≢true h)
 
-pub IsPlain-from : (n : Netlist) → IsValid n → is_one_gate n ≡ true → IsPlain n
-IsPlain-from n valid one =
+pub IsOneGateShape-from : (n : Netlist) → is_one_gate n ≡ true → IsOneGateShape n
+IsOneGateShape-from n one =
     let first = both_hold (has_no_clock n && has_single_drivers n && gates_read_pins n) (outputs_are_driven n) one in
     let second = both_hold (has_no_clock n && has_single_drivers n) (gates_read_pins n) first.0 in
     let third = both_hold (has_no_clock n) (has_single_drivers n) second.0 in
@@ -258,12 +258,12 @@ IsPlain-from n valid one =
     let pins : data_pins n ≡ n.pins = data_pins_all n clock in
     let inputs : input_pins n ≡ filter (λ (p : PinUse). p.input) n.pins = ap (filter (λ (p : PinUse). p.input)) pins in
     let outputs : output_pins n ≡ filter (λ (p : PinUse). not p.input) n.pins = ap (filter (λ (p : PinUse). not p.input)) pins in
-    let names = NamesDiffer-from n.pins valid.names_differ in
+    let names = NamesDiffer-from n.pins n.valid.names_differ in
     record {
-      few_parts = valid.few_parts;
-      parts = AreSimple-from n.nets (driven_by_pins n.pins) n.parts valid.parts second.1;
-      inputs = subst (AllByRecursion (IsPinOn (driven_by_pins n.pins))) (sym inputs) (inputs_on n.nets [] n.pins valid.pins);
-      outputs = subst (AllByRecursion (IsPinOn (driven n))) (sym outputs) (outputs_on n.nets (driven n) n.pins valid.pins first.1);
+      few_parts = n.valid.few_parts;
+      parts = AreSimple-from n.nets (driven_by_pins n.pins) n.parts n.valid.parts_fit second.1;
+      inputs = subst (AllByRecursion (IsPinOn (driven_by_pins n.pins))) (sym inputs) (inputs_on n.nets [] n.pins n.valid.pins_fit);
+      outputs = subst (AllByRecursion (IsPinOn (driven n))) (sym outputs) (outputs_on n.nets (driven n) n.pins n.valid.pins_fit first.1);
       inputs_differ = subst NamesDiffer (sym inputs) (NamesDiffer-filter (λ (p : PinUse). p.input) n.pins names);
       outputs_differ = subst NamesDiffer (sym outputs) (NamesDiffer-filter (λ (p : PinUse). not p.input) n.pins names);
       drivers_differ = third.1;
