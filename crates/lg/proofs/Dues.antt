@@ -1,91 +1,150 @@
 -- What is due for what a file holds.
-use Rattle.std.proofs.Common.{◌≡◌, ℕ, ◌≤◌, Bool, true, false, List, length, Option, Some, None, Result, Ok, Err, Vec, Global, refl, sym, subst, arith, inl, inr}
-use Rattle.std.specs.Prelude.{IfSome, nat_lt, MatchBool, codes}
-use Rattle.std.proofs.lemmas.Bool.{le-ltb}
+use Rattle.std.proofs.Common.{◌≡◌, ℕ, ◌<◌, ◌≤◌, Bool, true, false, List, length, Option, Some, None, Result, Ok, Err, Vec, Global, refl, sym, subst, arith, inl, inr}
+use Rattle.std.specs.Prelude.{IfSome, nat_lt, MatchBool}
+use Rattle.std.proofs.lemmas.Bool.{le-ltb, lt-ltb}
+use Rattle.lg_io.specs.Fault.{HasRisen}
+use Rattle.lg_io.specs.Files.{IsReadAnswer}
+use Rattle.lg_io.specs.Files as files
+use Rattle.lg_io.specs.Sink.{Seen}
+use Rattle.lg_io.specs.declared.fault.FileFault.{FileFault}
+use Rattle.lg_io.specs.declared.fault.FileFault.TheVariants as file_fault
+use Rattle.lg_circ.specs.declared.read.TheConstants.{GREATEST_LENGTH}
 use Rattle.lg.specs.declared.status.Status.{Status}
 use Rattle.lg.specs.declared.status.Status.TheVariants as status
+use Rattle.lg.specs.declared.stop.Refusal.{Refusal}
 use Rattle.lg.specs.declared.stop.Refusal.TheVariants.{Missing, TooLong, NotBuilt}
 use Rattle.lg.specs.declared.stop.Stop.{Stop}
 use Rattle.lg.specs.declared.stop.Stop.TheVariants as stop
-use Rattle.lg.specs.Due.{Held, Due, Text, Stop as Stops, IsModuleDue, IsExportDue, IsCommandDue, IsDue, IsAgreedText, longest_project, input_line}
-use Rattle.lg.specs.Exported.{Makes, Exports, HoldsModule, Writes}
-use Rattle.lg.specs.Lines.{status_of, refusal_text}
-use Rattle.lg.specs.Outcome.{Follows}
+use Rattle.lg.specs.Due.{Held, Due, Writes, Stops, IsModuleDue, IsExportDue, IsCommandDue, IsDue, IsAgreedText}
+use Rattle.lg.specs.Exported.{Makes, Exports, HoldsModule}
+use Rattle.lg.specs.Lines.{status_of}
+use Rattle.lg.specs.Outcome.{Ends, Follows, WrotePrefix}
+use Rattle.lg.specs.Stops.{file_stop}
 use Rattle.lg.specs.Words.{Command, Export, command_of}
 
 -- bytes within the limit are judged by what they say
-within_limit : (file bytes : List ℕ) (due : Due) → length bytes ≤ longest_project → IsModuleDue file bytes due → IsExportDue file (Some bytes) due
+within_limit : (file bytes : List ℕ) (due : Due) → length bytes ≤ GREATEST_LENGTH → IsModuleDue file bytes due → IsExportDue file (Some bytes) due
 within_limit file bytes due fits h =
-    let low : nat_lt longest_project (length bytes) ≡ false = le-ltb longest_project (length bytes) fits in
+    let low : nat_lt GREATEST_LENGTH (length bytes) ≡ false = le-ltb GREATEST_LENGTH (length bytes) fits in
     rw low h
 
+-- and bytes past it by their number
+past_limit : (file bytes : List ℕ) → GREATEST_LENGTH < length bytes → IsExportDue file (Some bytes) (Stops (stop.Input TooLong) file)
+past_limit file bytes long =
+    let high : nat_lt GREATEST_LENGTH (length bytes) ≡ true = lt-ltb GREATEST_LENGTH (length bytes) long in
+    rw high refl
+
 -- the text or the stop of the bytes that a file holds is what is due for the file
-pub Exports-from_makes : (told : Option Held) (file bytes : List ℕ) (f f' : ℕ) (r : Result (Vec ℕ Global) Stop) → Makes bytes r
-    → IfSome told (λ held. (held file ≡ Some bytes) × (length bytes ≤ longest_project)) → Exports told file f f' r
-Exports-from_makes None file bytes f f' (Ok text) m h = tt
-Exports-from_makes (Some held) file bytes f f' (Ok text) m h = (bytes, h.0, m.0, m.1)
-Exports-from_makes told file bytes f f' (Err (stop.Input Missing)) m h = absurd m
-Exports-from_makes None file bytes f f' (Err (stop.Input TooLong)) m h = tt
-Exports-from_makes (Some held) file bytes f f' (Err (stop.Input TooLong)) m h = absurd (omega arith)
-Exports-from_makes None file bytes f f' (Err (stop.Input NotBuilt)) m h = tt
-Exports-from_makes (Some held) file bytes f f' (Err (stop.Input NotBuilt)) m h =
-    rw h.0 (within_limit file bytes (Stops status.Input (input_line file (codes "NotBuilt"))) m.0 (m.1, refl, refl))
-Exports-from_makes told file bytes f f' (Err stop.Memory) m h = tt
-Exports-from_makes told file bytes f f' (Err stop.Usage) m h = absurd m
-Exports-from_makes told file bytes f f' (Err stop.ReadFault) m h = absurd m
-Exports-from_makes told file bytes f f' (Err stop.WriteFault) m h = absurd m
+pub Exports-from_makes : (before after : files.Seen) (file bytes : List ℕ) (r : Result (Vec ℕ Global) Stop) → Makes bytes r
+    → IfSome before.held (λ held. (held file ≡ Some bytes) × (length bytes ≤ GREATEST_LENGTH)) → Exports before after file r
+Exports-from_makes before after file bytes r made holds = by before.held r made holds
+  where
+    by : (told : Option Held) (r : Result (Vec ℕ Global) Stop) → Makes bytes r → IfSome told (λ held. (held file ≡ Some bytes) × (length bytes ≤ GREATEST_LENGTH))
+        → Exports (record { held = told; faults = before.faults }) after file r
+    by None (Ok text) m h = tt
+    by (Some held) (Ok text) m h = (bytes, h.0, m.0, m.1)
+    by told (Err (stop.Input Missing)) m h = absurd m
+    by None (Err (stop.Input TooLong)) m h = tt
+    by (Some held) (Err (stop.Input TooLong)) m h = absurd (omega arith)
+    by None (Err (stop.Input NotBuilt)) m h = tt
+    by (Some held) (Err (stop.Input NotBuilt)) m h = rw h.0 (within_limit file bytes (Stops (stop.Input NotBuilt) file) m.0 (m.1, refl, refl))
+    by told (Err stop.Memory) m h = tt
+    by told (Err stop.Usage) m h = absurd m
+    by told (Err stop.ReadFault) m h = absurd m
+    by told (Err stop.WriteFault) m h = absurd m
+
+-- a read that was refused is the stop that is due
+pub Exports-from_fault : (before after : files.Seen) (file : List ℕ) (fault : FileFault) → IfSome before.held (λ held. IsReadAnswer (held file) GREATEST_LENGTH (Err fault))
+    → (fault ≡ file_fault.Failed → HasRisen before.faults after.faults) → Exports before after file (Err (file_stop fault))
+Exports-from_fault before after file fault answer rose = by before.held fault answer rose
+  where
+    by : (told : Option Held) (fault : FileFault) → IfSome told (λ held. IsReadAnswer (held file) GREATEST_LENGTH (Err fault)) → (fault ≡ file_fault.Failed → HasRisen before.faults after.faults)
+        → Exports (record { held = told; faults = before.faults }) after file (Err (file_stop fault))
+    by None file_fault.Missing a r = tt
+    by (Some held) file_fault.Missing a r = rw a refl
+    by None file_fault.TooLong a r = tt
+    by (Some held) file_fault.TooLong a r = rw a.1 (past_limit file a.0 a.2)
+    by told file_fault.Failed a r = r refl
+    by told file_fault.Memory a r = tt
 
 -- a text and a stop are not both due
-not_both : (file : List ℕ) (found : Option (List ℕ)) (text : List ℕ) (s : Status) (line : List ℕ) → IsExportDue file found (Text text) → IsExportDue file found (Stops s line) → ⊥
-not_both file None text s line h k = absurd cc
-not_both file (Some bytes) text s line h k = by_limit (nat_lt longest_project (length bytes)) h k
+not_both : (file : List ℕ) (found : Option (List ℕ)) (s : Status) (text : List ℕ) (why : Stop) (about : List ℕ) → IsExportDue file found (Writes s text) → IsExportDue file found (Stops why about) → ⊥
+not_both file None s text why about h k = absurd cc
+not_both file (Some bytes) s text why about h k = by_limit (nat_lt GREATEST_LENGTH (length bytes)) h k
   where
-    by_limit : (b : Bool) → MatchBool b (let due : Due = Text text in due ≡ Stops status.Input (input_line file (codes "TooLong"))) (IsModuleDue file bytes (Text text))
-        → MatchBool b (let due : Due = Stops s line in due ≡ Stops status.Input (input_line file (codes "TooLong"))) (IsModuleDue file bytes (Stops s line)) → ⊥
+    by_limit : (b : Bool) → MatchBool b (◌≡◌ {A = Due} (Writes s text) (Stops (stop.Input TooLong) file)) (IsModuleDue file bytes (Writes s text))
+        → MatchBool b (◌≡◌ {A = Due} (Stops why about) (Stops (stop.Input TooLong) file)) (IsModuleDue file bytes (Stops why about)) → ⊥
     by_limit true h k = absurd cc
-    by_limit false h k = k.0 text h
+    by_limit false h k = k.0 text h.1
 
 -- each stop that is due for a file is an input's
-stop_is_input : (file : List ℕ) (found : Option (List ℕ)) (s : Status) (line : List ℕ) → IsExportDue file found (Stops s line) → s ≡ status.Input
-stop_is_input file None s line h = cc
-stop_is_input file (Some bytes) s line h = by_limit (nat_lt longest_project (length bytes)) h
+stop_is_input : (file : List ℕ) (found : Option (List ℕ)) (why : Stop) (about : List ℕ) → IsExportDue file found (Stops why about) → status_of why ≡ status.Input
+stop_is_input file None why about h = let e : why ≡ stop.Input Missing = cc in rw e refl
+stop_is_input file (Some bytes) why about h = by_limit (nat_lt GREATEST_LENGTH (length bytes)) h
   where
-    by_limit : (b : Bool) → MatchBool b (let due : Due = Stops s line in due ≡ Stops status.Input (input_line file (codes "TooLong"))) (IsModuleDue file bytes (Stops s line)) → s ≡ status.Input
-    by_limit true h = cc
-    by_limit false h = h.1
+    by_limit : (b : Bool) → MatchBool b (◌≡◌ {A = Due} (Stops why about) (Stops (stop.Input TooLong) file)) (IsModuleDue file bytes (Stops why about)) → status_of why ≡ status.Input
+    by_limit true h = let e : why ≡ stop.Input TooLong = cc in rw e refl
+    by_limit false h = rw h.1 refl
+
+-- each text that is due for a file is written with `Done`
+text_is_done : (file : List ℕ) (found : Option (List ℕ)) (s : Status) (text : List ℕ) → IsExportDue file found (Writes s text) → s ≡ status.Done
+text_is_done file None s text h = absurd cc
+text_is_done file (Some bytes) s text h = by_limit (nat_lt GREATEST_LENGTH (length bytes)) h
+  where
+    by_limit : (b : Bool) → MatchBool b (◌≡◌ {A = Due} (Writes s text) (Stops (stop.Input TooLong) file)) (IsModuleDue file bytes (Writes s text)) → s ≡ status.Done
+    by_limit true h = absurd cc
+    by_limit false h = h.0
 
 -- the text of a module that is held is due
-text_is_due : (held : Held) (file bytes text : List ℕ) → held file ≡ Some bytes → length bytes ≤ longest_project → IsAgreedText bytes text → IsExportDue file (held file) (Text text)
-text_is_due held file bytes text e fits t =
-    rw e (within_limit file bytes (Text text) fits t.made)
+pub text_is_due : (held : Held) (file text : List ℕ) → HoldsModule (Some held) file text → IsExportDue file (held file) (Writes status.Done text)
+text_is_due held file text (bytes, e, fits, t) = rw e (within_limit file bytes (Writes status.Done text) fits (refl, t.made))
 
--- after the text of a module only a text is due
-done_at : (file : List ℕ) (found : Option (List ℕ)) (text : List ℕ) (due : Due) (f f' o o' : ℕ) → IsExportDue file found (Text text) → IsExportDue file found due → Follows due status.Done f f' o o'
-done_at file found text (Text t) f f' o o' h k = inl refl
-done_at file found text (Stops s line) f f' o o' h k = absurd (not_both file found text s line h k)
+-- after the text of a module was written, or a part of it, only a text is due
+pub complete_written : (told : Option Held) (words : List (List ℕ)) (file text : List ℕ) (s : Status) (files_before files_after : files.Seen) (before after : Seen) → command_of words ≡ Some (Export file) → HoldsModule told file text
+    → Ends s before after text → IfSome told (λ held. (due : Due) → IsDue words held due → Follows due s files_before files_after before after)
+complete_written None words file text s files_before files_after before after asked h ends = tt
+complete_written (Some held) words file text s files_before files_after before after asked h ends = λ due is_due.
+    by due s ends (subst (λ (c : Option Command). IsCommandDue c held due) asked is_due)
+  where
+    by : (due : Due) (s : Status) → Ends s before after text → IsExportDue file (held file) due → Follows due s files_before files_after before after
+    by (Writes due t) status.Done ends k = inl (sym (text_is_done file (held file) due t k))
+    by (Writes due t) status.WriteFault ends k = inr (inr (inr ends.1))
+    by (Stops why about) status.Done ends k = absurd (not_both file (held file) status.Done text why about (text_is_due held file text h) k)
+    by (Stops why about) status.WriteFault ends k = absurd (not_both file (held file) status.Done text why about (text_is_due held file text h) k)
+    by due status.Usage ends k = absurd ends
+    by due status.Input ends k = absurd ends
+    by due status.ReadFault ends k = absurd ends
+    by due status.Memory ends k = absurd ends
+
+-- a write that failed wrote a prefix of the due text
+pub prefix_written : (told : Option Held) (words : List (List ℕ)) (file text : List ℕ) (s : Status) (before after : Seen) → command_of words ≡ Some (Export file) → HoldsModule told file text → Ends s before after text → s ≡ status.WriteFault
+    → IfSome told (λ held. WrotePrefix words held before after)
+prefix_written None words file text s before after asked h ends e = tt
+prefix_written (Some held) words file text s before after asked h ends e =
+    let failed : Ends status.WriteFault before after text = subst (λ (x : Status). Ends x before after text) e ends in
+    record {
+      status = status.Done;
+      text = text;
+      due = subst (λ (c : Option Command). IsCommandDue c held (Writes status.Done text)) (sym asked) (text_is_due held file text h);
+      took = failed.0;
+    }
 
 -- after a stop the due one, or memory ran out, or a count rose
-stopped_at : (held : Held) (file : List ℕ) (due : Due) (f f' o o' : ℕ) (before after : Option (List ℕ)) (s : Stop) → Writes (Some held) file f f' before after o o' (Err s) → IsExportDue file (held file) due → Follows due (status_of s) f f' o o'
-stopped_at held file (Text t) f f' o o' before after (stop.Input refusal) w k = absurd (not_both file (held file) t status.Input (input_line file (refusal_text refusal)) k w)
-stopped_at held file (Stops s line) f f' o o' before after (stop.Input refusal) w k = inl (sym (stop_is_input file (held file) s line k))
-stopped_at held file (Text t) f f' o o' before after stop.ReadFault w k = inr (inr (inl w))
-stopped_at held file (Stops s line) f f' o o' before after stop.ReadFault w k = inr (inr w)
-stopped_at held file (Text t) f f' o o' before after stop.WriteFault w k = inr (inr (inr w.rose))
-stopped_at held file (Stops s line) f f' o o' before after stop.WriteFault w k =
-    let m = w.exported in
-    absurd (not_both file (held file) w.text s line (text_is_due held file m.0 w.text m.1 m.2 m.3) k)
-stopped_at held file (Text t) f f' o o' before after stop.Memory w k = inr (inl refl)
-stopped_at held file (Stops s line) f f' o o' before after stop.Memory w k = inr (inl refl)
-stopped_at held file due f f' o o' before after stop.Usage w k = absurd w
+pub complete_stopped : (words : List (List ℕ)) (file : List ℕ) (files_before files_after : files.Seen) (before after : Seen) (why : Stop) (s : Status) → command_of words ≡ Some (Export file) → s ≡ status_of why
+    → Exports files_before files_after file (Err why) → IfSome files_before.held (λ held. (due : Due) → IsDue words held due → Follows due s files_before files_after before after)
+complete_stopped words file files_before files_after before after why s asked e exports = of files_before.held exports
+  where
+    stopped_at : (held : Held) (due : Due) (why : Stop) → Exports (record { held = Some held; faults = files_before.faults }) files_after file (Err why) → IsExportDue file (held file) due
+        → Follows due (status_of why) files_before files_after before after
+    stopped_at held (Writes d t) (stop.Input refusal) w k = absurd (not_both file (held file) d t (stop.Input refusal) file k w)
+    stopped_at held (Stops due about) (stop.Input refusal) w k = inl (sym (stop_is_input file (held file) due about k))
+    stopped_at held (Writes d t) stop.ReadFault w k = inr (inr (inl w))
+    stopped_at held (Stops due about) stop.ReadFault w k = inr (inr w)
+    stopped_at held (Writes d t) stop.Memory w k = inr (inl refl)
+    stopped_at held (Stops due about) stop.Memory w k = inr (inl refl)
+    stopped_at held due stop.Usage w k = absurd w
+    stopped_at held due stop.WriteFault w k = absurd w
 
-pub complete_done : (told : Option Held) (words : List (List ℕ)) (file text : List ℕ) (f f' o o' : ℕ) → command_of words ≡ Some (Export file) → HoldsModule told file text
-    → IfSome told (λ held. (due : Due) → IsDue words held due → Follows due status.Done f f' o o')
-complete_done None words file text f f' o o' asked h = tt
-complete_done (Some held) words file text f f' o o' asked h = λ due is_due.
-    done_at file (held file) text due f f' o o' (text_is_due held file h.0 text h.1 h.2 h.3) (subst (λ (c : Option Command). IsCommandDue c held due) asked is_due)
-
-pub complete_stopped : (told : Option Held) (words : List (List ℕ)) (file : List ℕ) (f f' o o' : ℕ) (before after : Option (List ℕ)) (s : Stop) (r : Status) → command_of words ≡ Some (Export file) → r ≡ status_of s
-    → Writes told file f f' before after o o' (Err s) → IfSome told (λ held. (due : Due) → IsDue words held due → Follows due r f f' o o')
-complete_stopped None words file f f' o o' before after s r asked e w = tt
-complete_stopped (Some held) words file f f' o o' before after s r asked e w = λ due is_due.
-    rw e (stopped_at held file due f f' o o' before after s w (subst (λ (c : Option Command). IsCommandDue c held due) asked is_due))
+    of : (told : Option Held) → Exports (record { held = told; faults = files_before.faults }) files_after file (Err why) → IfSome told (λ held. (due : Due) → IsDue words held due → Follows due s files_before files_after before after)
+    of None w = tt
+    of (Some held) w = λ due is_due. rw e (stopped_at held due why w (subst (λ (c : Option Command). IsCommandDue c held due) asked is_due))

@@ -1,4 +1,2 @@
-pub mod Written
 pub mod Dues
 pub mod OneSheetLemmas
-pub mod Limits

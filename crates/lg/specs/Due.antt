@@ -1,8 +1,12 @@
--- What is due for some words and some files: a text, or the first stop in the order of the verb's steps.
-use Rattle.std.specs.Prelude.{◌≡◌, ℕ, List, ◌++◌, length, Option, Some, None, nat_lt, MatchBool, codes}
+-- What is due for some words and some files: a text with its status, or the first stop in the order of the verb's steps.
+use Rattle.std.specs.Prelude.{◌≡◌, ℕ, List, [], length, Option, Some, None, nat_lt, MatchBool}
 use Rattle.std.specs.List.{AllByRecursion}
 use Rattle.lg.specs.declared.status.Status.{Status}
-use Rattle.lg.specs.declared.status.Status.TheVariants.{Usage, Input}
+use Rattle.lg.specs.declared.status.Status.TheVariants.{Done}
+use Rattle.lg.specs.declared.stop.Refusal.TheVariants.{Missing, TooLong, NotBuilt}
+use Rattle.lg.specs.declared.stop.Stop.{Stop}
+use Rattle.lg.specs.declared.stop.Stop.TheVariants.{Usage, Input}
+use Rattle.lg_circ.specs.declared.read.TheConstants.{GREATEST_LENGTH}
 use Rattle.lg_circ.specs.declared.project.Project.{Project}
 use Rattle.lg_circ.specs.Plain.{IsPlainProject}
 use Rattle.lg_export.specs.Agreement.{Agrees}
@@ -15,25 +19,14 @@ use Rattle.lg_verilog.specs.Printed.{module_text}
 use Rattle.lg.specs.OneSheet.{IsBuilt}
 use Rattle.lg.specs.Words.{Command, Export, command_of}
 
--- a text for the output, or a status with its line
+-- a text for the output with the status after it, or the stop that the run ends with, about a file
 pub data Due : Type 0 where
-  Text : (text : List ℕ) → Due
-  Stop : (status : Status) → (line : List ℕ) → Due
+  Writes : (status : Status) → (text : List ℕ) → Due
+  Stops : (stop : Stop) → (file : List ℕ) → Due
 
 -- contents by name
 abbrev pub Held : Type 0
 Held = List ℕ → Option (List ℕ)
-
-abbrev pub usage_line : List ℕ
-usage_line = codes "lg: usage: lg VERB [OPTIONS] ARGUMENTS\n"
-
--- the line of a refusal, under the file that it is about
-abbrev pub input_line : List ℕ → List ℕ → List ℕ
-input_line file refusal = codes "lg: input: " ++ file ++ codes ": " ++ refusal ++ codes "\n"
-
--- how many bytes a project file may have
-abbrev pub longest_project : ℕ
-longest_project = 8388608
 
 -- the bytes are a plain project with a circuit that is built, and this is its module's text
 pub record IsModuleText (bytes text : List ℕ) : Type 0 where
@@ -55,19 +48,18 @@ pub record IsAgreedText (bytes text : List ℕ) : Type 0 where
 
 -- the text of the module, or NotBuilt where there is none
 abbrev pub IsModuleDue : List ℕ → List ℕ → Due → Type 0
-IsModuleDue file bytes (Text text) = IsModuleText bytes text
-IsModuleDue file bytes (Stop status line) =
-    ((text : List ℕ) → IsModuleText bytes text → ⊥) × (status ≡ Input) × (line ≡ input_line file (codes "NotBuilt"))
+IsModuleDue file bytes (Writes status text) = (status ≡ Done) × IsModuleText bytes text
+IsModuleDue file bytes (Stops stop about) = ((text : List ℕ) → IsModuleText bytes text → ⊥) × (stop ≡ Input NotBuilt) × (about ≡ file)
 
 -- TooLong before all that the bytes say
 abbrev pub IsExportDue : List ℕ → Option (List ℕ) → Due → Type 0
-IsExportDue file None due = due ≡ Stop Input (input_line file (codes "Missing"))
+IsExportDue file None due = due ≡ Stops (Input Missing) file
 IsExportDue file (Some bytes) due =
-    MatchBool (nat_lt longest_project (length bytes)) (due ≡ Stop Input (input_line file (codes "TooLong"))) (IsModuleDue file bytes due)
+    MatchBool (nat_lt GREATEST_LENGTH (length bytes)) (due ≡ Stops (Input TooLong) file) (IsModuleDue file bytes due)
 
 -- a case for each command
 abbrev pub IsCommandDue : Option Command → Held → Due → Type 0
-IsCommandDue None held due = due ≡ Stop Usage usage_line
+IsCommandDue None held due = due ≡ Stops Usage []
 IsCommandDue (Some (Export file)) held due = IsExportDue file (held file) due
 
 -- this is due for the words where the files hold this

@@ -1,6 +1,7 @@
 pub mod OneSheet
 pub mod Words
-pub mod Due
 pub mod Lines
-pub mod Outcome
+pub mod Stops
+pub mod Due
 pub mod Exported
+pub mod Outcome

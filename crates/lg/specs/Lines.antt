@@ -1,4 +1,4 @@
--- The line of each stop.
+-- The status and the line of each stop.
 use Rattle.std.specs.Prelude.{ℕ, List, ◌++◌, codes}
 use Rattle.lg.specs.declared.status.Status.{Status}
 use Rattle.lg.specs.declared.status.Status.TheVariants as status
@@ -6,7 +6,6 @@ use Rattle.lg.specs.declared.stop.Refusal.{Refusal}
 use Rattle.lg.specs.declared.stop.Refusal.TheVariants.{Missing, TooLong, NotBuilt}
 use Rattle.lg.specs.declared.stop.Stop.{Stop}
 use Rattle.lg.specs.declared.stop.Stop.TheVariants as stop
-use Rattle.lg.specs.Due.{usage_line, input_line}
 
 abbrev pub status_of : Stop → Status
 status_of stop.Usage = status.Usage
@@ -26,8 +25,8 @@ refusal_ending refusal = codes ": " ++ refusal_text refusal ++ codes "\n"
 
 -- the line of a stop, about a file
 abbrev pub line_of : Stop → List ℕ → List ℕ
-line_of stop.Usage file = usage_line
-line_of (stop.Input refusal) file = input_line file (refusal_text refusal)
+line_of stop.Usage file = codes "lg: usage: lg VERB [OPTIONS] ARGUMENTS\n"
+line_of (stop.Input refusal) file = codes "lg: input: " ++ file ++ refusal_ending refusal
 line_of stop.ReadFault file = codes "lg: read fault: " ++ file ++ codes "\n"
 line_of stop.WriteFault file = codes "lg: write fault\n"
 line_of stop.Memory file = codes "lg: out of memory\n"

@@ -1,8 +1,7 @@
--- One-gate circuits: the circuits that are exported so far.
-use Rattle.std.specs.Prelude.{◌≡◌, Bool, ◌||◌, IsTrue, List, [], ◌∷◌, Some}
-use Rattle.std.specs.Ordering.{int_eq}
+-- One-gate circuits: the circuits that are exported.
+use Rattle.std.specs.Prelude.{◌≡◌, IsTrue, List, [], ◌∷◌, Some}
 use Rattle.std.specs.List.{list_all, zip}
-use Rattle.lg_circ.specs.declared.project.Wire.{Wire}
+use Rattle.lg_circ.specs.Straight.{is_straight}
 use Rattle.lg_circ.specs.declared.project.Sheet.{Sheet}
 use Rattle.lg_circ.specs.declared.project.Project.{Project}
 use Rattle.lg_netlist.specs.declared.netlist.Netlist.{Netlist}
@@ -10,10 +9,6 @@ use Rattle.lg_netlist.specs.OneGate.{is_one_gate}
 use Rattle.lg_flatten.specs.declared.role.Role.{Role}
 use Rattle.lg_flatten.specs.Uses.{roles_of}
 use Rattle.lg_flatten.specs.Flat.{IsNetlistOf}
-
--- the wire is level or upright
-abbrev pub is_straight : Wire → Bool
-is_straight w = int_eq w.from.x w.to.x || int_eq w.from.y w.to.y
 
 -- the project's one sheet is a one-gate circuit, and this is its netlist
 pub record IsBuilt (project : Project) (n : Netlist) : Type 0 where
@@ -32,6 +27,6 @@ pub record IsBuilt (project : Project) (n : Netlist) : Type 0 where
 abbrev pub IsOnlyBuilt : Project → Netlist → Type 0
 IsOnlyBuilt project n = (other : Netlist) → IsBuilt project other → other ≡ n
 
--- the project's circuit is none that is exported so far
+-- the project's circuit is not one that is exported
 abbrev pub IsNotBuilt : Project → Type 0
 IsNotBuilt project = (n : Netlist) → IsBuilt project n → ⊥

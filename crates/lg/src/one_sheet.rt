@@ -2,9 +2,9 @@
 
 ghost use Rattle.std.specs.Prelude.{◌≡◌, ◌+◌, ◌*◌, ◌<◌, ◌^◌, length, All, IsTrue, IfOk, IsErrOf};
 ghost use Rattle.std.specs.List.{list_all};
-ghost use Rattle.lg_netlist.specs.Valid.{IsValid};
+ghost use Rattle.lg_circ.specs.Straight.{is_straight};
 ghost use Rattle.lg_netlist.specs.OneGate.{is_one_gate};
-ghost use Rattle.lg.specs.OneSheet.{is_straight, IsBuilt, IsOnlyBuilt, IsNotBuilt};
+ghost use Rattle.lg.specs.OneSheet.{IsBuilt, IsOnlyBuilt, IsNotBuilt};
 ghost use Rattle.lg.specs.declared.one_sheet.EarlyFault.TheVariants.{Memory};
 
 use lg_circ::{Project, Wire};
@@ -14,7 +14,7 @@ use std::alloc::{AllocError, Global};
 /// Why `one_sheet` gives no netlist.
 #[derive(Clone, Copy, Debug, PartialEq, Eq)]
 pub enum EarlyFault {
-    /// The project's circuit is none that is exported so far.
+    /// The project's circuit is not one that is exported.
     NotBuilt,
     /// There was no memory.
     Memory,
@@ -35,7 +35,6 @@ pub fn one_sheet(alloc: Global, project: &Project) -> Result<Netlist, EarlyFault
     ensures found { IfOk result (IsBuilt project.now) }
     ensures only { IfOk result (IsOnlyBuilt project.now) }
     ensures not_built { IsErrOf result EarlyFault.NotBuilt → IsNotBuilt project.now }
-    ensures valid { IfOk result IsValid }
     ensures one_gate { IfOk result (λ n. IsTrue (is_one_gate n)) }
 {
     let [sheet] = project.sheets.as_slice() else {
@@ -58,5 +57,5 @@ pub fn one_sheet(alloc: Global, project: &Project) -> Result<Netlist, EarlyFault
 fn are_straight(wires: &[Wire]) -> bool
     ensures { result ≡ list_all is_straight wires.now }
 {
-    wires.iter().all(|wire| wire.from.x == wire.to.x || wire.from.y == wire.to.y)
+    wires.iter().all(|wire| wire.is_straight())
 }

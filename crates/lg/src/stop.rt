@@ -1,11 +1,16 @@
 //! Why a run stops before its end, and the line that says so.
 
 ghost use Rattle.std.specs.Prelude.{◌≡◌, ◌≤◌, ◌++◌};
-ghost use Rattle.lg.specs.Outcome.{Said, Wrote};
+ghost use Rattle.lg_io.specs.Sink.{Said, Wrote};
 ghost use Rattle.lg.specs.Lines.{status_of, refusal_ending, line_of};
+ghost use Rattle.lg.specs.Stops.{file_stop, circ_stop, early_stop};
+ghost use Rattle.lg.specs.declared.stop.Stop.TheVariants as stop;
 
+use crate::one_sheet::EarlyFault;
 use crate::status::Status;
-use lg_io::{Sink, SinkFault, write_all};
+use lg_circ::CircFault;
+use lg_export::NotAccepted;
+use lg_io::{FileFault, Sink, SinkFault, write_all};
 
 /// Why an input is refused.
 #[derive(Clone, Copy, Debug, PartialEq, Eq)]
@@ -25,6 +30,60 @@ pub enum Stop {
     Memory,
 }
 
+impl From<FileFault> for Stop {
+    ghost from_gives = { λ fault stop. stop ≡ file_stop fault };
+
+    fn from(fault: FileFault) -> Stop {
+        match fault {
+            FileFault::Missing => Stop::Input(Refusal::Missing),
+            FileFault::TooLong => Stop::Input(Refusal::TooLong),
+            FileFault::Failed => Stop::ReadFault,
+            FileFault::Memory => Stop::Memory,
+        }
+    }
+}
+
+impl From<CircFault> for Stop {
+    ghost from_gives = { λ fault stop. stop ≡ circ_stop fault };
+
+    fn from(fault: CircFault) -> Stop {
+        match fault {
+            CircFault::TooLong => Stop::Input(Refusal::TooLong),
+            CircFault::NotBuilt => Stop::Input(Refusal::NotBuilt),
+            CircFault::Memory => Stop::Memory,
+        }
+    }
+}
+
+impl From<EarlyFault> for Stop {
+    ghost from_gives = { λ fault stop. stop ≡ early_stop fault };
+
+    fn from(fault: EarlyFault) -> Stop {
+        match fault {
+            EarlyFault::NotBuilt => Stop::Input(Refusal::NotBuilt),
+            EarlyFault::Memory => Stop::Memory,
+        }
+    }
+}
+
+impl From<NotAccepted> for Stop {
+    ghost from_gives = { λ _ stopped. stopped ≡ stop.Memory };
+
+    fn from(fault: NotAccepted) -> Stop {
+        match fault {
+            NotAccepted::Memory => Stop::Memory,
+        }
+    }
+}
+
+impl From<lg_verilog::Memory> for Stop {
+    ghost from_gives = { λ _ stopped. stopped ≡ stop.Memory };
+
+    fn from(_: lg_verilog::Memory) -> Stop {
+        Stop::Memory
+    }
+}
+
 impl Stop {
     /// The status that the run ends with.
     pub fn status(self) -> Status
@@ -39,17 +98,18 @@ impl Stop {
         }
     }
 
-    /// Says the stop's line, under the file that it is about. A line that is lost changes nothing.
-    pub fn say<E: Sink>(self, file: &str, err: &mut E)
-        ensures said { Said (E.taken err.old) (E.taken err.new) (E.faults err.old) (E.faults err.new) (line_of self file.now) }
-        ensures never_falls { E.faults err.old ≤ E.faults err.new }
+    /// Ends the run: says the stop's line, under the file that it is about, and gives the status. A line that is lost
+    /// changes nothing.
+    pub fn end<E: Sink>(self, file: &str, err: &mut E) -> Status
+        ensures status { result ≡ status_of self }
+        ensures said { Said (E.seen err.old) (E.seen err.new) (line_of self file.now) }
     {
         let _ = self.write_line(file, err);
+        self.status()
     }
 
     fn write_line<E: Sink>(self, file: &str, err: &mut E) -> Result<(), SinkFault>
-        ensures wrote { Wrote result (E.taken err.old) (E.taken err.new) (E.faults err.old) (E.faults err.new) (line_of self file.now) }
-        ensures never_falls { E.faults err.old ≤ E.faults err.new }
+        ensures { Wrote result (E.seen err.old) (E.seen err.new) (line_of self file.now) }
     {
         match self {
             Stop::Usage => put(err, "lg: usage: lg VERB [OPTIONS] ARGUMENTS\n"),
@@ -76,8 +136,7 @@ impl Refusal {
 
 // Writes what stands before a file's name, the name, and what stands behind it.
 fn put_about<E: Sink>(err: &mut E, before: &str, file: &str, after: &str) -> Result<(), SinkFault>
-    ensures wrote { Wrote result (E.taken err.old) (E.taken err.new) (E.faults err.old) (E.faults err.new) (before.now ++ file.now ++ after.now) }
-    ensures never_falls { E.faults err.old ≤ E.faults err.new }
+    ensures { Wrote result (E.seen err.old) (E.seen err.new) (before.now ++ file.now ++ after.now) }
 {
     put(err, before)?;
     put(err, file)?;
@@ -85,8 +144,8 @@ fn put_about<E: Sink>(err: &mut E, before: &str, file: &str, after: &str) -> Res
 }
 
 fn put<E: Sink>(err: &mut E, text: &str) -> Result<(), SinkFault>
-    ensures wrote { Wrote result (E.taken err.old) (E.taken err.new) (E.faults err.old) (E.faults err.new) text.now }
-    ensures never_falls { E.faults err.old ≤ E.faults err.new }
+    ensures wrote { Wrote result (E.seen err.old) (E.seen err.new) text.now }
+    ensures never_falls { (E.seen err.old).faults ≤ (E.seen err.new).faults }
 {
     write_all(err, text.as_bytes())
 }

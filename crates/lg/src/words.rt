@@ -1,18 +1,18 @@
 //! The words of the command line, read by their short definition.
 
-ghost use Rattle.std.specs.Prelude.{◌≡◌, map, string_bytes};
-ghost use Rattle.lg.specs.Words.{command_of, is_positional, asks_export};
+ghost use Rattle.std.specs.Prelude.{◌≡◌};
+ghost use Rattle.lg.specs.Words.{words_of, command_of, is_positional, asks_export};
 
 /// The project file whose module the words ask for, or none where they are no command: `export`, and one further word
 /// that is not empty and does not begin with `-`.
-pub fn project_to_export(words: &[String]) -> Option<&str>
-    ensures { asks_export result ≡ command_of (map string_bytes words.now) }
+pub fn file_to_export(words: &[String]) -> Option<&str>
+    ensures { asks_export result ≡ command_of (words_of words.now) }
 {
-    let [verb, project] = words else {
+    let [verb, file] = words else {
         return None;
     };
-    if verb.as_str() == "export" && is_positional(project.as_str()) {
-        Some(project.as_str())
+    if verb.as_str() == "export" && is_positional(file.as_str()) {
+        Some(file.as_str())
     } else {
         None
     }

@@ -1,17 +1,26 @@
 -- What was due decides the status, unless memory ran out or a count rose.
-use Rattle.std.proofs.Common.{sym, map, Global}
-use Rattle.std.specs.Prelude.{string_bytes}
-use Rattle.lg.proofs.Dues.{complete_done, complete_stopped}
+use Rattle.std.proofs.Common.{ℕ, List, sym, subst}
+use Rattle.lg.specs.Outcome.{Ends}
+use Rattle.lg.specs.Words.{words_of}
+use Rattle.lg.proofs.Dues.{prefix_written, complete_written, complete_stopped}
 use Rattle.lg.proofs.run.run.Goals as goal
+
+pub returns-in-Ok-clause-prefix : goal.returns-in-Ok-clause-prefix
+returns-in-Ok-clause-prefix g c =
+    let before = g.O.Sink.seen c.args.out.now in
+    let after = g.O.Sink.seen c.write.new.out in
+    prefix_written (g.F.Files.seen c.args.files.now).held (words_of c.args.words.now) c.in-Some.file.now c.in-Ok.text.items c.write.result before after
+    (sym c.in-Some.ensures) c.in-Ok.ensures.exports (subst (Ends c.write.result before after) c.as_slice.ensures.value c.write.ensures.ends)
 
 pub returns-in-Ok-clause-complete : goal.returns-in-Ok-clause-complete
 returns-in-Ok-clause-complete g c =
-    complete_done (g.F.Files.held c.args.files.now) (map (string_bytes {Z = Global}) c.args.words.now) c.in-Some.project.now c.in-Ok.ensures.writes.text
-    (g.F.Files.faults c.args.files.now) (g.F.Files.faults c.export.new.files) (g.O.Sink.faults c.args.out.now) (g.O.Sink.faults c.export.new.out)
-    (sym c.in-Some.ensures) c.in-Ok.ensures.writes.exported
+    let before = g.O.Sink.seen c.args.out.now in
+    let after = g.O.Sink.seen c.write.new.out in
+    complete_written (g.F.Files.seen c.args.files.now).held (words_of c.args.words.now) c.in-Some.file.now c.in-Ok.text.items c.write.result
+    (g.F.Files.seen c.args.files.now) (g.F.Files.seen c.export.new.files) before after
+    (sym c.in-Some.ensures) c.in-Ok.ensures.exports (subst (Ends c.write.result before after) c.as_slice.ensures.value c.write.ensures.ends)
 
 pub returns-in-Err-clause-complete : goal.returns-in-Err-clause-complete
 returns-in-Err-clause-complete g c =
-    complete_stopped (g.F.Files.held c.args.files.now) (map (string_bytes {Z = Global}) c.args.words.now) c.in-Some.project.now
-    (g.F.Files.faults c.args.files.now) (g.F.Files.faults c.export.new.files) (g.O.Sink.faults c.args.out.now) (g.O.Sink.faults c.export.new.out)
-    (g.O.Sink.taken c.args.out.now) (g.O.Sink.taken c.export.new.out) c.in-Err.stop c.status.result (sym c.in-Some.ensures) c.status.ensures c.in-Err.ensures.writes
+    complete_stopped (words_of c.args.words.now) c.in-Some.file.now (g.F.Files.seen c.args.files.now) (g.F.Files.seen c.export.new.files)
+    (g.O.Sink.seen c.args.out.now) (g.O.Sink.seen c.args.out.now) c.in-Err.stop c.end-in-Err.result (sym c.in-Some.ensures) c.end-in-Err.ensures.status c.in-Err.ensures.exports

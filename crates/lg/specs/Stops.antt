@@ -1,0 +1,25 @@
+-- Which stop each refusal of a step is.
+use Rattle.lg_io.specs.declared.fault.FileFault.{FileFault}
+use Rattle.lg_io.specs.declared.fault.FileFault.TheVariants as file
+use Rattle.lg_circ.specs.declared.fault.CircFault.{CircFault}
+use Rattle.lg_circ.specs.declared.fault.CircFault.TheVariants as circ
+use Rattle.lg.specs.declared.one_sheet.EarlyFault.{EarlyFault}
+use Rattle.lg.specs.declared.one_sheet.EarlyFault.TheVariants as early
+use Rattle.lg.specs.declared.stop.Refusal.TheVariants.{Missing, TooLong, NotBuilt}
+use Rattle.lg.specs.declared.stop.Stop.{Stop}
+use Rattle.lg.specs.declared.stop.Stop.TheVariants as stop
+
+abbrev pub file_stop : FileFault → Stop
+file_stop file.Missing = stop.Input Missing
+file_stop file.TooLong = stop.Input TooLong
+file_stop file.Failed = stop.ReadFault
+file_stop file.Memory = stop.Memory
+
+abbrev pub circ_stop : CircFault → Stop
+circ_stop circ.TooLong = stop.Input TooLong
+circ_stop circ.NotBuilt = stop.Input NotBuilt
+circ_stop circ.Memory = stop.Memory
+
+abbrev pub early_stop : EarlyFault → Stop
+early_stop early.NotBuilt = stop.Input NotBuilt
+early_stop early.Memory = stop.Memory
