@@ -10,3 +10,4 @@ pub mod Each
 pub mod Plainness
 pub mod Whole
 pub mod Few
+pub mod Decided

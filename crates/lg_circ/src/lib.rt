@@ -15,7 +15,7 @@ mod reading;
 
 pub use element::Element;
 pub use fault::CircFault;
-pub use law::one_tree;
+pub use law::{one_tree, texts_say_or_not};
 pub use pairs::value_under;
 pub use project::{
     Attrs, Comp, FARTHEST, GREATEST_LIMIT, Point, Project, Sheet, USUAL_LIMIT, Wire,

@@ -4,3 +4,4 @@ pub mod RoleLemmas
 pub mod UseLemmas
 pub mod OneNetlist
 pub mod Validity
+pub mod SomeNetlist

@@ -4,6 +4,7 @@
 mod bits;
 mod flat;
 mod labels;
+mod law;
 mod parts;
 mod pins;
 mod places;
@@ -11,6 +12,7 @@ mod role;
 mod uses;
 
 pub use flat::netlist;
+pub use law::sheets_have_netlists;
 pub use role::Role;
 pub use uses::roles;
 

@@ -7,3 +7,5 @@ pub mod SpelledLemmas
 pub mod PinLemmas
 pub mod MarkLemmas
 pub mod OneGateLemmas
+pub mod SomeNumbers
+pub mod SomeNames

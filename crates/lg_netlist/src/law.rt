@@ -1,6 +1,6 @@
 //! Laws of the definitions.
 
-ghost use Rattle.std.specs.Prelude.{◌≡◌, ℕ, List};
+ghost use Rattle.std.specs.Prelude.{◌≡◌, ℕ, ◌<◌, ◌^◌, List, [], length};
 ghost use Rattle.lg_netlist.specs.Names.{AreNames};
 ghost use Rattle.lg_netlist.specs.Numbering.{IsNumbering};
 
@@ -16,4 +16,14 @@ pub fn one_numbering()
     ensures { (labels numbers other : List ℕ) (count count_other : ℕ) →
         IsNumbering ◌≡◌ labels numbers count → IsNumbering ◌≡◌ labels other count_other →
         (numbers ≡ other) × (count ≡ count_other) }
+{}
+
+/// All labels have numbers.
+pub fn labels_have_numbers()
+    ensures { (labels : List ℕ) → (numbers : List ℕ) × (count : ℕ) × IsNumbering ◌≡◌ labels numbers count }
+{}
+
+/// Labels have names, where there are fewer than 2 ^ 63.
+pub fn labels_have_names()
+    ensures { (labels : List (List ℕ)) → length labels < 2 ^ 63 → (names : List (List ℕ)) × AreNames [] labels names }
 {}

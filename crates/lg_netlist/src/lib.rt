@@ -8,7 +8,7 @@ mod numbering;
 mod one_gate;
 mod pins;
 
-pub use law::{one_naming, one_numbering};
+pub use law::{labels_have_names, labels_have_numbers, one_naming, one_numbering};
 pub use names::{LONGEST_NAME, name_of_label, pin_names};
 pub use netlist::{Cell, Netlist, PartUse, PinUse};
 pub use numbering::numbered;

@@ -9,3 +9,6 @@ pub mod ShareLemmas
 pub mod RayLemmas
 pub mod MeetLemmas
 pub mod NetLemmas
+pub mod Decisions
+pub mod SomeLinks
+pub mod SomeNets
