@@ -1,0 +1,4 @@
+pub mod CaseLemmas
+pub mod NumberLemmas
+pub mod ShapeLemmas
+pub mod ShiftLemmas

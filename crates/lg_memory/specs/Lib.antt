@@ -1,0 +1,9 @@
+pub mod Controls
+pub mod Counter
+pub mod FlipFlop
+pub mod Form
+pub mod Inputs
+pub mod Shape
+pub mod ShiftRegister
+pub mod Step
+pub mod Storage
