@@ -56,13 +56,13 @@ word_of_number_last (suc width) =
     let half : (2 ^ suc width - 1) / 2 ≡ 2 ^ width - 1 = rw twice (half_of_last (2 ^ width) (pow_pos width)) in
     rw (word_of_number-suc width (2 ^ suc width - 1), lowest, half, word_of_number_last width) refl
 
-defined_is : (b : Bit) → is_defined_bit b ≡ true → (b ≡ Zero) ⊎ (b ≡ One)
+pub defined_is : (b : Bit) → is_defined_bit b ≡ true → (b ≡ Zero) ⊎ (b ≡ One)
 defined_is Zero h = inl refl
 defined_is One h = inr refl
 defined_is Unknown h = absurd (cc h)
 defined_is Error h = absurd (cc h)
 
-is_defined : (b : Bit) → (b ≡ Zero) ⊎ (b ≡ One) → is_defined_bit b ≡ true
+pub is_defined : (b : Bit) → (b ≡ Zero) ⊎ (b ≡ One) → is_defined_bit b ≡ true
 is_defined Zero h = refl
 is_defined One h = refl
 is_defined Unknown h = elim h [ inl e ↦ cc | inr e ↦ cc ]

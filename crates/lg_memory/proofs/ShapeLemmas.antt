@@ -35,20 +35,11 @@ AreWords-shifted si stages count width first held =
     (length-take-le (length stages) (si ∷ stages) (omega arith) ∙ held.0,
      All-take (λ word. length word ≡ width) (length stages) (si ∷ stages) (All-cons (λ word. length word ≡ width) si stages first held.1))
 
-pub AreWords-loads_or_shifts : (ld sh : Bit) (d held next : List Word) (count width : ℕ) → (ld ≡ One → AreWords count width d) → AreWords count width held → AreWords count width next → AreWords count width (loads_or_shifts ld sh d held next)
-AreWords-loads_or_shifts One sh d held next count width loaded kept moved = loaded refl
-AreWords-loads_or_shifts Zero Zero d held next count width loaded kept moved = kept
-AreWords-loads_or_shifts Zero One d held next count width loaded kept moved = moved
-AreWords-loads_or_shifts Zero Unknown d held next count width loaded kept moved = moved
-AreWords-loads_or_shifts Zero Error d held next count width loaded kept moved = moved
-AreWords-loads_or_shifts Unknown Zero d held next count width loaded kept moved = kept
-AreWords-loads_or_shifts Unknown One d held next count width loaded kept moved = moved
-AreWords-loads_or_shifts Unknown Unknown d held next count width loaded kept moved = moved
-AreWords-loads_or_shifts Unknown Error d held next count width loaded kept moved = moved
-AreWords-loads_or_shifts Error Zero d held next count width loaded kept moved = kept
-AreWords-loads_or_shifts Error One d held next count width loaded kept moved = moved
-AreWords-loads_or_shifts Error Unknown d held next count width loaded kept moved = moved
-AreWords-loads_or_shifts Error Error d held next count width loaded kept moved = moved
+-- what holds of the words that are loaded, of those that are held and of the shifted ones
+pub loads_or_shifts-any : (P : List Word → Type 0) (ld sh : Bit) (d held next : List Word) → (ld ≡ One → P d) → P held → P next → P (loads_or_shifts ld sh d held next)
+loads_or_shifts-any P One sh d held next loaded kept moved = loaded refl
+loads_or_shifts-any P _ Zero d held next loaded kept moved = kept
+loads_or_shifts-any P _ _ d held next loaded kept moved = moved
 
 -- the data of parallel stages
 pub AreWords-loaded : (inputs : List Word) (a b c d e count width : ℕ) → map length inputs ≡ a ∷ b ∷ c ∷ d ∷ e ∷ replicate count width → AreWords count width (drop 5 inputs)
@@ -69,10 +60,10 @@ AreWords-stored_at (Some address) Error d words count width fits held = held
 
 pub AreWords-shift_words : (width count : ℕ) (parallel : Bool) (trigger : Trigger) (stages inputs : List Word) → map length inputs ≡ input_widths (Shift width count parallel trigger) → AreWords count width stages → AreWords count width (shift_words parallel stages inputs)
 AreWords-shift_words width count true trigger stages inputs fits held =
-    AreWords-loads_or_shifts (bit_at inputs 4) (bit_at inputs 1) (drop 5 inputs) stages (shifted (word_at inputs 0) stages) count width
+    loads_or_shifts-any (AreWords count width) (bit_at inputs 4) (bit_at inputs 1) (drop 5 inputs) stages (shifted (word_at inputs 0) stages)
     (λ _. AreWords-loaded inputs width 1 1 1 1 count width fits) held
     (AreWords-shifted (word_at inputs 0) stages count width (length-word_at inputs (width ∷ 1 ∷ 1 ∷ 1 ∷ 1 ∷ replicate count width) 0 fits) held)
 AreWords-shift_words width count false trigger stages inputs fits held =
-    AreWords-loads_or_shifts Zero (bit_at inputs 1) (drop 5 inputs) stages (shifted (word_at inputs 0) stages) count width
+    loads_or_shifts-any (AreWords count width) Zero (bit_at inputs 1) (drop 5 inputs) stages (shifted (word_at inputs 0) stages)
     (λ e. absurd (cc e)) held
     (AreWords-shifted (word_at inputs 0) stages count width (length-word_at inputs (width ∷ 1 ∷ 1 ∷ 1 ∷ []) 0 fits) held)

@@ -7,6 +7,7 @@ mod fault;
 mod flip_flop;
 mod form;
 mod inputs;
+pub mod law;
 mod register;
 mod shift_register;
 mod state;
