@@ -2,7 +2,9 @@ pub mod Controls
 pub mod Counter
 pub mod FlipFlop
 pub mod Form
+pub mod Image
 pub mod Inputs
+pub mod Scan
 pub mod Shape
 pub mod ShiftRegister
 pub mod Step

@@ -1,0 +1,41 @@
+//! Numbers in decimal and hexadecimal digits.
+
+ghost use Rattle.std.specs.Prelude.{ℕ, ◌≡◌, ◌<◌, ◌≤◌, MatchOption};
+ghost use Rattle.lg_memory.specs.Image.{digit_value, Spells};
+
+// The number that a text is in a base, if it is at most `most`.
+pub fn read_number(text: &[u8], base: u64, most: u64) -> Option<u64>
+    requires { (1 ≤ base) × (base ≤ 16) }
+    ensures { MatchOption result
+        ((n : ℕ) → Spells base text.now n → most < n)
+        (λ n. Spells base text.now n × (n ≤ most)) }
+{
+    if text.is_empty() {
+        return None;
+    }
+    let mut number = 0u64;
+    for byte in text {
+        let digit = digit_value(*byte);
+        if digit >= base || number > (u64::MAX - digit) / base {
+            return None;
+        }
+        number = base * number + digit;
+        if number > most {
+            return None;
+        }
+    }
+    Some(number)
+}
+
+// The value of a digit, and 16 for any other character.
+fn digit_value(byte: u8) -> u64
+    ensures value { result ≡ digit_value byte }
+    ensures small { result ≤ 16 }
+{
+    match byte {
+        b'0'..=b'9' => (byte - b'0') as u64,
+        b'a'..=b'f' => (byte - b'a' + 10) as u64,
+        b'A'..=b'F' => (byte - b'A' + 10) as u64,
+        _ => 16,
+    }
+}
