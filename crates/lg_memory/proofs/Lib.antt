@@ -1,8 +1,11 @@
 pub mod CaseLemmas
 pub mod ClearLemmas
 pub mod DefinedLemmas
+pub mod ImageLemmas
 pub mod NumberLemmas
 pub mod RepeatLemmas
+pub mod RunLemmas
+pub mod ScanLemmas
 pub mod ShapeLemmas
 pub mod ShiftLemmas
 pub mod WidthLemmas

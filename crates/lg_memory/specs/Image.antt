@@ -52,16 +52,16 @@ pub record IsTimes (bound : ℕ) (text times word : List ℕ) (run : Run) : Type
 abbrev pub IsRun : ℕ → List ℕ → Run → Type 0
 IsRun bound text run = IsValue bound text run ⊎ ((times word : List ℕ) × IsTimes bound text times word run)
 
--- a text ends, or goes on with white space
-abbrev pub EndsWord : List ℕ → Type 0
-EndsWord [] = Unit
-EndsWord (c ∷ rest) = is_white c ≡ true
+-- a text ends, or goes on with a character that passes a test
+abbrev pub EndsOrStarts : (ℕ → Bool) → List ℕ → Type 0
+EndsOrStarts test [] = Unit
+EndsOrStarts test (c ∷ rest) = test c ≡ true
 
 -- a text is runs with white space between them, before the first and after the last
 abbrev pub AreRuns : ℕ → List ℕ → List Run → Type 0
 AreRuns bound text [] = All (λ c. is_white c ≡ true) text
 AreRuns bound text (run ∷ runs) =
-    (gap word rest : List ℕ) × (text ≡ gap ++ (word ++ rest)) × All (λ c. is_white c ≡ true) gap × IsRun bound word run × EndsWord rest × AreRuns bound rest runs
+    (gap word rest : List ℕ) × (text ≡ gap ++ (word ++ rest)) × All (λ c. is_white c ≡ true) gap × IsRun bound word run × EndsOrStarts is_white rest × AreRuns bound rest runs
 
 -- the words of runs
 abbrev pub words_of_runs : List Run → List ℕ
