@@ -1,5 +1,5 @@
 -- The words of an image, run by run.
-use Rattle.std.proofs.Common.{◌≡◌, ◌≢◌, ℕ, zero, suc, ◌+◌, ◌<◌, ◌≤◌, Bool, true, false, cond, eqb, ◌⊎◌, inl, inr, List, [], ◌∷◌, ◌++◌, length, take, drop, refl, ap, sym, ◌∙◌, arith, append_assoc, replicate, length-append}
+use Rattle.std.proofs.Common.{◌≡◌, ◌≢◌, ℕ, zero, suc, ◌+◌, ◌<◌, ◌≤◌, Bool, true, false, cond, eqb, ◌⊎◌, inl, inr, List, [], ◌∷◌, ◌++◌, length, take, drop, refl, ap, sym, ◌∙◌, arith, append_assoc, replicate, length-append, length-take, length-drop}
 use Rattle.std.specs.Prelude.{◌||◌, not}
 use Rattle.std.specs.List.{All, prefix_len, flat_map}
 use Rattle.std.proofs.lemmas.Bool.Decides.{eqb_tells}
@@ -8,9 +8,9 @@ use Rattle.std.proofs.lemmas.List.Concat.{flat_map-cons}
 use Rattle.std.proofs.lemmas.List.Elements.{All-nil, All-cons, All-head, All-tail}
 use Rattle.lg_memory.specs.declared.run.Run.{Run}
 use Rattle.lg_memory.specs.Image.{is_white, uncommented, IsRun, EndsOrStarts, AreRuns, words_of_runs, HasWords}
-use Rattle.lg_memory.specs.Scan.{after_gap, is_word_byte, GoesOn}
+use Rattle.lg_memory.specs.Scan.{after_gap, is_word_byte, Keeps, GoesOn}
 use Rattle.lg_memory.proofs.RunLemmas.{run_some, run_not_white, cut_alike, IsRun-same}
-use Rattle.lg_memory.proofs.ScanLemmas.{IsWhite, NotWhite, or_false, line_feed, stays, gap_same}
+use Rattle.lg_memory.proofs.ScanLemmas.{IsWhite, NotWhite, or_false, line_feed, stays, gap_same, after_gap-starts}
 
 -- how long the word is with which a text begins
 abbrev word_size : List ℕ → ℕ
@@ -176,3 +176,75 @@ GoesOn-end bound text words on =
        let whole = on.only all h in
        let none : whole.0 ≡ [] = nothing bound whole.0 whole.1 in
        whole.2 ∙ ap (λ t. words ++ t) none ∙ append-nil words)
+
+-- What a reader knows at a rest: the words before it, of which it keeps all or just that they are too many.
+pub record IsReading (bound limit : ℕ) (text kept : List ℕ) (over : Bool) (rest : List ℕ) : Type 0 where
+  pub words : List ℕ
+  pub keeps : Keeps limit kept over words
+  pub on : GoesOn bound text words rest
+  pub starts : EndsOrStarts is_word_byte rest
+
+pub reading_begins : (bound limit : ℕ) (text kept rest : List ℕ) → kept ≡ [] → rest ≡ after_gap false text → IsReading bound limit text kept false rest
+reading_begins bound limit text kept rest none begun =
+    rw begun record {
+      words = [];
+      keeps = (none, omega arith);
+      on = GoesOn-start bound text;
+      starts = after_gap-starts false text;
+    }
+
+pub reading_more : (bound limit : ℕ) (text kept kept' : List ℕ) (over over' : Bool) (rest word after rest' : List ℕ) (size : ℕ) (run : Run) → IsReading bound limit text kept over rest → 1 ≤ length rest → size ≡ word_size rest → word ≡ take size rest → after ≡ drop size rest → IsRun bound word run
+    → ((words : List ℕ) → Keeps limit kept over words → Keeps limit kept' over' (words ++ replicate run.count run.value)) → rest' ≡ after_gap false after → IsReading bound limit text kept' over' rest'
+reading_more bound limit text kept kept' over over' rest word after rest' size run so_far some sized taken left is keeps moved =
+    let own : IsRun bound (take (word_size rest) rest) run = rw (taken, sized) at is in
+    let next : rest' ≡ after_gap false (drop (word_size rest) rest) = moved ∙ ap (after_gap false) left ∙ ap (λ n. after_gap false (drop n rest)) sized in
+    rw next record {
+      words = so_far.words ++ replicate run.count run.value;
+      keeps = keeps so_far.words so_far.keeps;
+      on = GoesOn-run bound text so_far.words rest run so_far.on some so_far.starts own;
+      starts = after_gap-starts false (drop (word_size rest) rest);
+    }
+
+gap_no_longer : (lf hash white : Bool) (x y z w : List ℕ) (k : ℕ) → length x ≤ k → length y ≤ k → length z ≤ k → length w ≤ k → length (cond lf x (cond hash y (cond white z w))) ≤ k
+gap_no_longer true hash white x y z w k p q r s = p
+gap_no_longer false true white x y z w k p q r s = q
+gap_no_longer false false true x y z w k p q r s = r
+gap_no_longer false false false x y z w k p q r s = s
+
+length-after_gap : (inside : Bool) (text : List ℕ) → length (after_gap inside text) ≤ length text
+length-after_gap inside [] = omega arith
+length-after_gap inside (c ∷ rest) =
+    let free : length (after_gap false rest) ≤ length (c ∷ rest) = omega (arith, length-after_gap false rest) in
+    let closed : length (after_gap true rest) ≤ length (c ∷ rest) = omega (arith, length-after_gap true rest) in
+    gap_no_longer (eqb c 10) (inside || eqb c 35) (is_white c) (after_gap false rest) (after_gap true rest) (after_gap false rest) (c ∷ rest) (length (c ∷ rest))
+    free closed free (omega arith)
+
+-- each run makes the rest shorter
+pub reading_shorter : (bound limit : ℕ) (text kept : List ℕ) (over : Bool) (rest after rest' : List ℕ) (size : ℕ) → IsReading bound limit text kept over rest → 1 ≤ length rest → size ≡ word_size rest → after ≡ drop size rest → rest' ≡ after_gap false after → length rest' < length rest
+reading_shorter bound limit text kept over rest after rest' size so_far some sized left moved =
+    let word = front_some rest some so_far.starts in
+    let next : rest' ≡ after_gap false (drop (word_size rest) rest) = moved ∙ ap (after_gap false) left ∙ ap (λ n. after_gap false (drop n rest)) sized in
+    rw next (omega (arith, word, length-take (word_size rest) rest, length-drop (word_size rest) rest, length-after_gap false (drop (word_size rest) rest)))
+
+-- a word that is no run
+pub reading_bad : (bound limit : ℕ) (text kept : List ℕ) (over : Bool) (rest word : List ℕ) (size : ℕ) → IsReading bound limit text kept over rest → 1 ≤ length rest → size ≡ word_size rest → word ≡ take size rest → ((run : Run) → IsRun bound word run → ⊥) → (all : List ℕ) → HasWords bound text all → ⊥
+reading_bad bound limit text kept over rest word size so_far some sized taken none =
+    GoesOn-bad bound text so_far.words rest so_far.on some so_far.starts (λ run is. none run (rw (taken, sized) is))
+
+-- the end, where all is kept
+pub reading_kept : (bound limit : ℕ) (text kept : List ℕ) (over : Bool) (rest : List ℕ) → IsReading bound limit text kept over rest → over ≡ false → rest ≡ [] → HasWords bound text kept × (length kept ≤ limit) × ((all : List ℕ) → HasWords bound text all → kept ≡ all)
+reading_kept bound limit text kept true rest so_far off none = absurd (cc off)
+reading_kept bound limit text kept false rest so_far off none =
+    let on : GoesOn bound text so_far.words [] = rw none at so_far.on in
+    let end = GoesOn-end bound text so_far.words on in
+    let same : kept ≡ so_far.words = so_far.keeps.0 in
+    (rw same end.0, rw same so_far.keeps.1, λ all h. same ∙ sym (end.1 all h))
+
+-- and where the words are too many
+pub reading_over : (bound limit : ℕ) (text kept : List ℕ) (over : Bool) (rest : List ℕ) → IsReading bound limit text kept over rest → over ≡ true → rest ≡ [] → ((all : List ℕ) × HasWords bound text all × (limit < length all)) × ((all : List ℕ) → HasWords bound text all → limit < length all)
+reading_over bound limit text kept false rest so_far on none = absurd (cc on)
+reading_over bound limit text kept true rest so_far on none =
+    let goes : GoesOn bound text so_far.words [] = rw none at so_far.on in
+    let end = GoesOn-end bound text so_far.words goes in
+    let past : limit < length so_far.words = so_far.keeps in
+    ((so_far.words, end.0, past), λ all h. rw (end.1 all h) past)

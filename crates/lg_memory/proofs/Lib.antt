@@ -1,6 +1,7 @@
 pub mod CaseLemmas
 pub mod ClearLemmas
 pub mod DefinedLemmas
+pub mod DigitLemmas
 pub mod ImageLemmas
 pub mod NumberLemmas
 pub mod RepeatLemmas

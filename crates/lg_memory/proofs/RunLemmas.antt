@@ -1,7 +1,10 @@
 -- Numbers and runs: what their characters are, and that a text is one run at most.
-use Rattle.std.proofs.Common.{◌≡◌, ◌≢◌, ℕ, zero, suc, ◌+◌, ◌-◌, ◌*◌, ◌<◌, ◌≤◌, Bool, true, false, cond, eqb, ◌⊎◌, inl, inr, List, [], ◌∷◌, ◌++◌, length, refl, ap, sym, ◌∙◌, arith, length-append}
-use Rattle.std.specs.List.{All}
-use Rattle.std.proofs.lemmas.Bool.Decides.{nat_tests, eqb_tells}
+use Rattle.std.proofs.Common.{◌≡◌, ◌≢◌, ℕ, zero, suc, ◌+◌, ◌-◌, ◌*◌, ◌<◌, ◌≤◌, Bool, true, false, cond, eqb, ltb, ◌⊎◌, inl, inr, List, [], ◌∷◌, ◌++◌, length, refl, ap, sym, ◌∙◌, arith, length-append, length-drop, take, drop, None, Some}
+use Rattle.std.specs.Prelude.{not}
+use Rattle.std.specs.List.{All, prefix_len, position}
+use Rattle.std.proofs.lemmas.Bool.{eqb-true}
+use Rattle.std.proofs.lemmas.List.{take_all}
+use Rattle.std.proofs.lemmas.Bool.Decides.{nat_tests, Decides-ltb}
 use Rattle.std.proofs.lemmas.List.Elements.{All-nil, All-cons, All-head, All-tail, All-append}
 use Rattle.lg_memory.specs.declared.run.Run.{Run}
 use Rattle.lg_memory.specs.Image.{is_white, digit_value, number_in, Spells, IsValue, IsTimes, IsRun, EndsOrStarts}
@@ -111,3 +114,104 @@ IsRun-same bound text a b (inr s) (inr t) =
     same_run a b
     (Spells-same 10 s.0 a.count b.count s.2.count (rw times t.2.count))
     (Spells-same 16 s.1 a.value b.value s.2.spelled (rw word t.2.spelled))
+
+abbrev pub NotStar : ℕ → Type 0
+NotStar c = eqb c 42 ≡ false
+
+-- the first star of a text, or the end
+abbrev pub star_size : List ℕ → ℕ
+star_size text = prefix_len (λ c. not (eqb c 42)) text
+
+-- what stands before the first star, and behind it
+record HasStar (size : ℕ) (text : List ℕ) : Type 0 where
+  before : All NotStar (take size text)
+  at : size < length text → text ≡ take size text ++ 42 ∷ drop (size + 1) text
+
+star_step : (c : ℕ) (rest : List ℕ) (size : ℕ) (star : Bool) → eqb c 42 ≡ star → HasStar size rest → HasStar (cond (not star) (1 + size) 0) (c ∷ rest)
+star_step c rest size true h more =
+    let same : c ≡ 42 = eqb-true c 42 h in
+    record { before = All-nil NotStar; at = λ inside. ap (λ x. x ∷ rest) same }
+star_step c rest size false h more =
+    let one : 1 + size ≡ suc size = omega arith in
+    let two : suc size + 1 ≡ suc (size + 1) = omega arith in
+    rw one record {
+      before = All-cons NotStar c (take size rest) h more.before;
+      at = λ inside. rw two (ap (λ t. c ∷ t) (more.at (omega (arith, inside))));
+    }
+
+has_star : (text : List ℕ) → HasStar (star_size text) text
+has_star [] = record { before = All-nil NotStar; at = λ inside. absurd (omega (arith, inside)) }
+has_star (c ∷ rest) = star_step c rest (star_size rest) (eqb c 42) refl (has_star rest)
+
+lt_tells_from : (a b : ℕ) (t : Bool) → ltb a b ≡ t → ((ltb a b ≡ true) × (a < b)) ⊎ ((ltb a b ≡ false) × (b ≤ a))
+lt_tells_from a b true h = inl (h, (Decides-ltb a b).0 h)
+lt_tells_from a b false h = inr (h, grind (arith, nat_tests))
+
+lt_tells : (a b : ℕ) → ((ltb a b ≡ true) × (a < b)) ⊎ ((ltb a b ≡ false) × (b ≤ a))
+lt_tells a b = lt_tells_from a b (ltb a b) refl
+
+-- a text without a star
+pub star_none : (text : List ℕ) → position (λ c. eqb c 42) text ≡ None → All NotStar text
+star_none text h =
+    elim (lt_tells (star_size text) (length text)) [
+      inl e ↦ absurd (cc (rw e.0 at h))
+    | inr e ↦ rw (take_all (star_size text) text e.1) at (has_star text).before
+    ]
+
+-- a text with a star
+pub star_some : (text : List ℕ) (k : ℕ) → position (λ c. eqb c 42) text ≡ Some k → (text ≡ take k text ++ 42 ∷ drop (k + 1) text) × All NotStar (take k text)
+star_some text k h =
+    elim (lt_tells (star_size text) (length text)) [
+      inl e ↦
+        let found : star_size text ≡ k = cc (rw e.0 at h) in
+        (rw found at ((has_star text).at e.1), rw found at (has_star text).before)
+    | inr e ↦ absurd (cc (rw e.0 at h))
+    ]
+
+-- a text without a star is no run where its number is too great or it is none
+pub no_value : (most : ℕ) (text : List ℕ) → All NotStar text → ((n : ℕ) → Spells 16 text n → most < n) → (run : Run) → IsRun (most + 1) text run → ⊥
+no_value most text plain none run (inl v) = omega (arith, none run.value v.spelled, v.fits)
+no_value most text plain none run (inr t) = no_star_in text t.0 t.1 plain t.2.parts
+
+-- the parts of a run with a star
+pub star_parts : (bound : ℕ) (text times word : List ℕ) → All NotStar times → text ≡ times ++ 42 ∷ word → (run : Run) → IsRun bound text run → IsTimes bound text times word run
+star_parts bound text times word plain parts run (inl v) =
+    absurd (no_star_in text times word (digits_not_star 16 text run.value (omega arith) v.spelled) parts)
+star_parts bound text times word plain parts run (inr t) =
+    let joined : t.0 ++ 42 ∷ t.1 ≡ times ++ 42 ∷ word = sym t.2.parts ∙ parts in
+    let cut = cut_alike (λ c. eqb c 42) t.0 times (42 ∷ t.1) (42 ∷ word)
+    (digits_not_star 10 t.0 run.count (omega arith) t.2.count) plain refl refl joined in
+    let same_times : t.0 ≡ times = cut.0 in
+    let same_word : t.1 ≡ word = cc cut.1 in
+    rw (← same_times, ← same_word) t.2
+
+-- the rest of a slice, as the code takes it
+pub tail_slice : (n : ℕ) (text : List ℕ) → take (length text - n) (drop n text) ≡ drop n text
+tail_slice n text = take_all (length text - n) (drop n text) (omega (arith, length-drop n text))
+
+-- a text with a star is no run where its number of times is none
+pub no_times : (bound : ℕ) (text : List ℕ) (k : ℕ) → position (λ c. eqb c 42) text ≡ Some k → ((n : ℕ) → Spells 10 (take k text) n → 1 ≤ n → n ≤ 1048576 → ⊥) → (run : Run) → IsRun bound text run → ⊥
+no_times bound text k found none run is =
+    let star = star_some text k found in
+    let parts = star_parts bound text (take k text) (drop (k + 1) text) star.1 star.0 run is in
+    none run.count parts.count parts.some parts.most
+
+-- nor where the number behind its star is none
+pub no_word : (most : ℕ) (text : List ℕ) (k : ℕ) → position (λ c. eqb c 42) text ≡ Some k → ((n : ℕ) → Spells 16 (drop (k + 1) text) n → most < n) → (run : Run) → IsRun (most + 1) text run → ⊥
+no_word most text k found none run is =
+    let star = star_some text k found in
+    let parts = star_parts (most + 1) text (take k text) (drop (k + 1) text) star.1 star.0 run is in
+    omega (arith, none run.value parts.spelled, parts.fits)
+
+-- and is one where both are numbers
+pub is_times : (most : ℕ) (text : List ℕ) (k : ℕ) (run : Run) → position (λ c. eqb c 42) text ≡ Some k → Spells 10 (take k text) run.count → 1 ≤ run.count → run.count ≤ 1048576 → Spells 16 (drop (k + 1) text) run.value → run.value ≤ most → IsRun (most + 1) text run
+is_times most text k run found count some times value fits =
+    let star = star_some text k found in
+    inr (take k text, drop (k + 1) text, record {
+      parts = star.0;
+      count = count;
+      some = some;
+      most = times;
+      spelled = value;
+      fits = omega (arith, fits);
+    })

@@ -8,7 +8,7 @@ ghost use Rattle.lg_memory.specs.Scan.{Keeps};
 
 use crate::fault::ImageFault;
 use crate::run::{Run, read_run};
-use crate::scan::{gap_len, word_len};
+use crate::scan::{skip_gap, word_len};
 use std::alloc::{AllocError, Global};
 
 /// The words of a memory image, each of `width` bits, without the missing ones. The width is 1 to 64.
@@ -60,15 +60,14 @@ fn read_words(alloc: Global, text: &[u8], most: u64, limit: usize) -> Result<Vec
 {
     let mut kept = Vec::new(alloc);
     let mut over = false;
-    let mut rest = &text[gap_len(text)..];
+    let mut rest = skip_gap(text);
     while !rest.is_empty() {
-        let word = word_len(rest);
-        let Some(run) = read_run(&rest[..word], most) else {
+        let (word, after) = rest.split_at(word_len(rest));
+        let Some(run) = read_run(word, most) else {
             return Err(ImageFault::NotImage);
         };
         over = keep(&mut kept, over, run, limit)?;
-        let after = &rest[word..];
-        rest = &after[gap_len(after)..];
+        rest = skip_gap(after);
     }
     if over {
         Err(ImageFault::ImageTooLong)

@@ -1,6 +1,6 @@
 //! Numbers in decimal and hexadecimal digits.
 
-ghost use Rattle.std.specs.Prelude.{ℕ, ◌≡◌, ◌<◌, ◌≤◌, MatchOption};
+ghost use Rattle.std.specs.Prelude.{ℕ, ◌≡◌, ◌+◌, ◌*◌, ◌<◌, ◌≤◌, MatchOption};
 ghost use Rattle.lg_memory.specs.Image.{digit_value, Spells};
 
 // The number that a text is in a base, if it is at most `most`.
@@ -13,18 +13,25 @@ pub fn read_number(text: &[u8], base: u64, most: u64) -> Option<u64>
     if text.is_empty() {
         return None;
     }
-    let mut number = 0u64;
+    let mut number = 0;
     for byte in text {
         let digit = digit_value(*byte);
-        if digit >= base || number > (u64::MAX - digit) / base {
+        if digit >= base {
             return None;
         }
-        number = base * number + digit;
-        if number > most {
-            return None;
-        }
+        number = with_digit(number, base, digit, most)?;
     }
     Some(number)
+}
+
+// A number with one more digit behind it, if that is at most `most`.
+fn with_digit(number: u64, base: u64, digit: u64, most: u64) -> Option<u64>
+    ensures { MatchOption result
+        (most < base * number + digit)
+        (λ n. (n ≡ base * number + digit) × (n ≤ most)) }
+{
+    let next = number.checked_mul(base)?.checked_add(digit)?;
+    if next <= most { Some(next) } else { None }
 }
 
 // The value of a digit, and 16 for any other character.

@@ -5,8 +5,15 @@ ghost use Rattle.std.specs.List.{prefix_len};
 ghost use Rattle.lg_memory.specs.Image.{is_white};
 ghost use Rattle.lg_memory.specs.Scan.{after_gap, is_word_byte};
 
+// The text from its first word on.
+pub fn skip_gap(text: &[u8]) -> &[u8]
+    ensures { result.now ≡ after_gap false text.now }
+{
+    &text[gap_len(text)..]
+}
+
 // How long the white space and the comments are before the first word.
-pub fn gap_len(text: &[u8]) -> usize
+fn gap_len(text: &[u8]) -> usize
     ensures within { result ≤ length text.now }
     ensures rest { drop result text.now ≡ after_gap false text.now }
 {
@@ -25,7 +32,8 @@ pub fn gap_len(text: &[u8]) -> usize
 
 // How long the word is with which a text begins.
 pub fn word_len(text: &[u8]) -> usize
-    ensures { result ≡ prefix_len is_word_byte text.now }
+    ensures within { result ≤ length text.now }
+    ensures word { result ≡ prefix_len is_word_byte text.now }
 {
     for (place, byte) in text.iter().enumerate() {
         if is_white(*byte) || *byte == b'#' {
