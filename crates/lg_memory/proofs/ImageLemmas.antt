@@ -1,13 +1,13 @@
 -- The words of an image, run by run.
-use Rattle.std.proofs.Common.{◌≡◌, ◌≢◌, ℕ, zero, suc, ◌+◌, ◌<◌, ◌≤◌, Bool, true, false, cond, eqb, ◌⊎◌, inl, inr, List, [], ◌∷◌, ◌++◌, length, take, drop, refl, ap, sym, ◌∙◌, arith, append_assoc, replicate, length-append, length-take, length-drop}
-use Rattle.std.specs.Prelude.{◌||◌, not}
+use Rattle.std.proofs.Common.{◌≡◌, ◌≢◌, ℕ, zero, suc, ◌+◌, ◌<◌, ◌≤◌, Bool, true, false, cond, eqb, ◌⊎◌, inl, inr, List, [], ◌∷◌, ◌++◌, length, take, drop, refl, ap, sym, ◌∙◌, arith, append_assoc, replicate, length-append, length-take, length-drop, get_or, ◌^◌}
+use Rattle.std.specs.Prelude.{◌||◌, not, codes}
 use Rattle.std.specs.List.{All, prefix_len, flat_map}
 use Rattle.std.proofs.lemmas.Bool.Decides.{eqb_tells}
-use Rattle.std.proofs.lemmas.List.{append-nil}
+use Rattle.std.proofs.lemmas.List.{append-nil, append_cancel_left}
 use Rattle.std.proofs.lemmas.List.Concat.{flat_map-cons}
 use Rattle.std.proofs.lemmas.List.Elements.{All-nil, All-cons, All-head, All-tail}
 use Rattle.lg_memory.specs.declared.run.Run.{Run}
-use Rattle.lg_memory.specs.Image.{is_white, uncommented, IsRun, EndsOrStarts, AreRuns, words_of_runs, HasWords}
+use Rattle.lg_memory.specs.Image.{is_white, uncommented, IsRun, EndsOrStarts, AreRuns, words_of_runs, HasWords, HasHeader, IsImage}
 use Rattle.lg_memory.specs.Scan.{after_gap, is_word_byte, Keeps, GoesOn}
 use Rattle.lg_memory.proofs.RunLemmas.{run_some, run_not_white, cut_alike, IsRun-same}
 use Rattle.lg_memory.proofs.ScanLemmas.{IsWhite, NotWhite, or_false, line_feed, stays, gap_same, after_gap-starts}
@@ -248,3 +248,20 @@ reading_over bound limit text kept true rest so_far on none =
     let end = GoesOn-end bound text so_far.words goes in
     let past : limit < length so_far.words = so_far.keeps in
     ((so_far.words, end.0, past), λ all h. rw (end.1 all h) past)
+
+-- the first line is one of the two
+pub header_same : (bytes s t : List ℕ) → HasHeader bytes s → HasHeader bytes t → s ≡ t
+header_same bytes s t (inl a) (inl b) = append_cancel_left (codes "v2.0 raw\n") s t (sym a ∙ b)
+header_same bytes s t (inr a) (inr b) = append_cancel_left (codes "v2.0 raw\r\n") s t (sym a ∙ b)
+header_same bytes s t (inl a) (inr b) =
+    let ninth : 10 ≡ 13 = ap (λ l. get_or l 8 0) (sym a ∙ b) in
+    absurd (omega (arith, ninth))
+header_same bytes s t (inr a) (inl b) =
+    let ninth : 13 ≡ 10 = ap (λ l. get_or l 8 0) (sym a ∙ b) in
+    absurd (omega (arith, ninth))
+
+-- what holds of the words behind the first line holds of the words of an image
+pub image_only : (width bound : ℕ) (bytes text : List ℕ) (P : List ℕ → Type 0) → bound ≡ 2 ^ width → HasHeader bytes text → ((all : List ℕ) → HasWords bound text all → P all) → (all : List ℕ) → IsImage width bytes all → P all
+image_only width bound bytes text P same header known all image =
+    let behind : text ≡ image.0 = header_same bytes text image.0 header image.1 in
+    known all (rw (same, behind) image.2)

@@ -5,7 +5,7 @@ use Rattle.std.specs.List.{list_all}
 use Rattle.std.specs.Prelude.{◌&&◌}
 use Rattle.std.specs.Int.{bit_at}
 use Rattle.std.proofs.Math.Nat.{pow-succ', mod-mod, mul-add-mod_self_right}
-use Rattle.std.proofs.lemmas.Nat.{pow_pos, mod-pow-add}
+use Rattle.std.proofs.lemmas.Nat.{pow_pos, pow-add, mod-pow-add, div-mul-add}
 use Rattle.std.proofs.lemmas.Nat.Bits.{bit_at_lowest}
 use Rattle.std.proofs.lemmas.List.Elements.{All-nil, All-cons, All-head, All-tail}
 use Rattle.lg_value.specs.declared.bit.Bit.{Bit}
@@ -84,3 +84,21 @@ test-IsDefined (b ∷ rest) h =
 
 pub Decides-IsDefined : (word : List Bit) → Decides (list_all is_defined_bit word) (IsDefined word)
 Decides-IsDefined word = (IsDefined-from_test word, test-IsDefined word)
+
+one_less : (m q : ℕ) → (m + 1) * q ≡ m * q + q
+one_less m q = grind arith
+
+-- the greatest number of a width, as the greatest of 64 bits cut to it
+pub greatest_of_width : (width : ℕ) → width ≤ 64 → 18446744073709551615 / 2 ^ (64 - width) + 1 ≡ 2 ^ width
+greatest_of_width width short =
+    let p = 2 ^ width in
+    let q = 2 ^ (64 - width) in
+    let whole : 2 ^ (width + (64 - width)) ≡ 2 ^ width * 2 ^ (64 - width) = pow-add 2 width (64 - width) in
+    let all : width + (64 - width) ≡ 64 = omega arith in
+    let product : 2 ^ 64 ≡ 2 ^ width * 2 ^ (64 - width) = rw all at whole in
+    let back : 2 ^ width - 1 + 1 ≡ 2 ^ width = omega (arith, pow_pos width) in
+    let less : 2 ^ width * 2 ^ (64 - width) ≡ (2 ^ width - 1) * 2 ^ (64 - width) + 2 ^ (64 - width) = rw back at (one_less (2 ^ width - 1) (2 ^ (64 - width))) in
+    let top : 18446744073709551615 ≡ (2 ^ width - 1) * 2 ^ (64 - width) + (2 ^ (64 - width) - 1) = omega (arith, product, less, pow_pos (64 - width)) in
+    let cut : ((2 ^ width - 1) * 2 ^ (64 - width) + (2 ^ (64 - width) - 1)) / 2 ^ (64 - width) ≡ 2 ^ width - 1 =
+    div-mul-add (2 ^ width - 1) (2 ^ (64 - width)) (2 ^ (64 - width) - 1) (omega (arith, pow_pos (64 - width))) in
+    rw top (omega (arith, cut, pow_pos width))

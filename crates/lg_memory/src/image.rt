@@ -30,9 +30,17 @@ pub fn read_image(alloc: Global, bytes: &[u8], width: u32, words: u32) -> Result
         → (all : List ℕ) × IsImage width bytes.now all × (words < length all) }
 {
     match after_header(bytes) {
-        Some(text) => read_words(alloc, text, u64::MAX >> (64 - width), words as usize),
+        Some(text) => read_words(alloc, text, greatest(width), words as usize),
         None => Err(ImageFault::NotImage),
     }
+}
+
+// The greatest number of a width.
+fn greatest(width: u32) -> u64
+    requires { IsWidth width }
+    ensures { result + 1 ≡ 2 ^ width }
+{
+    u64::MAX >> (64 - width)
 }
 
 // The text behind the first line of an image.
