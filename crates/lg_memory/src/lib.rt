@@ -16,6 +16,8 @@ mod scan;
 mod shift_register;
 mod state;
 mod storage;
+#[cfg(test)]
+mod tests;
 mod transition;
 
 pub use fault::{ImageFault, Memory};
