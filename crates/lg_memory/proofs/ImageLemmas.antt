@@ -30,18 +30,18 @@ comment-ends : (text : List ℕ) → EndsOrStarts is_white (uncommented true tex
 comment-ends [] = tt
 comment-ends (c ∷ rest) =
     elim (eqb_tells c 10) as (λ _. EndsOrStarts is_white (uncommented true (c ∷ rest))) [
-      inl e ↦ rw e.0 (line_feed c e.0)
-    | inr e ↦ rw e.0 (comment-ends rest)
+      | inl e ↦ rw e.0 (line_feed c e.0)
+      | inr e ↦ rw e.0 (comment-ends rest)
     ]
 
 -- behind a word a text ends, or white space or a comment follows
 behind_word : (c : ℕ) (rest : List ℕ) (white sharp : Bool) → is_white c ≡ white → eqb c 35 ≡ sharp → not (white || sharp) ≡ false → EndsOrStarts is_white (uncommented false (c ∷ rest))
 behind_word c rest true sharp a b h =
     elim (eqb_tells c 10) as (λ _. EndsOrStarts is_white (uncommented false (c ∷ rest))) [
-      inl e ↦ rw e.0 a
-    | inr e ↦ elim (eqb_tells c 35) as (λ _. EndsOrStarts is_white (uncommented false (c ∷ rest))) [
-        inl s ↦ rw (e.0, s.0) (comment-ends rest)
-      | inr s ↦ rw (e.0, s.0) a
+      | inl e ↦ rw e.0 a
+      | inr e ↦ elim (eqb_tells c 35) as (λ _. EndsOrStarts is_white (uncommented false (c ∷ rest))) [
+        | inl s ↦ rw (e.0, s.0) (comment-ends rest)
+        | inr s ↦ rw (e.0, s.0) a
       ]
     ]
 behind_word c rest false true a b h =
@@ -145,11 +145,11 @@ pub GoesOn-run : (bound : ℕ) (text words rest : List ℕ) (run : Run) → Goes
 GoesOn-run bound text words rest run on some starts is = record {
   with_more = λ more h. rw append_assoc (on.with_more (replicate run.count run.value ++ more) (HasWords-run bound rest run more is h));
   only = λ all h.
-    let whole = on.only all h in
-    let first = run-HasWords bound rest whole.0 some starts whole.1 in
-    let same : first.0 ≡ run = IsRun-same bound (take (word_size rest) rest) first.0 run first.2 is in
-    let here : whole.0 ≡ replicate run.count run.value ++ first.1 = first.4 ∙ ap (λ (r : Run). replicate r.count r.value ++ first.1) same in
-    (first.1, first.3, whole.2 ∙ ap (λ t. words ++ t) here ∙ sym (append_assoc words (replicate run.count run.value) first.1));
+      let whole = on.only all h in
+      let first = run-HasWords bound rest whole.0 some starts whole.1 in
+      let same : first.0 ≡ run = IsRun-same bound (take (word_size rest) rest) first.0 run first.2 is in
+      let here : whole.0 ≡ replicate run.count run.value ++ first.1 = first.4 ∙ ap (λ (r : Run). replicate r.count r.value ++ first.1) same in
+      (first.1, first.3, whole.2 ∙ ap (λ t. words ++ t) here ∙ sym (append_assoc words (replicate run.count run.value) first.1));
 }
 
 -- a word that is no run is in no image
@@ -170,12 +170,13 @@ nothing bound all h = nothing_runs bound all h.0 h.1 h.2
 
 -- all is read
 pub GoesOn-end : (bound : ℕ) (text words : List ℕ) → GoesOn bound text words [] → HasWords bound text words × ((all : List ℕ) → HasWords bound text all → all ≡ words)
-GoesOn-end bound text words on =
-    (rw append-nil at (on.with_more [] ([], All-nil IsWhite, refl)),
-     λ all h.
-       let whole = on.only all h in
-       let none : whole.0 ≡ [] = nothing bound whole.0 whole.1 in
-       whole.2 ∙ ap (λ t. words ++ t) none ∙ append-nil words)
+GoesOn-end bound text words on = (
+  rw append-nil at (on.with_more [] ([], All-nil IsWhite, refl)),
+  λ all h.
+      let whole = on.only all h in
+      let none : whole.0 ≡ [] = nothing bound whole.0 whole.1 in
+      whole.2 ∙ ap (λ t. words ++ t) none ∙ append-nil words,
+)
 
 -- What a reader knows at a rest: the words before it, of which it keeps all or just that they are too many.
 pub record IsReading (bound limit : ℕ) (text kept : List ℕ) (over : Bool) (rest : List ℕ) : Type 0 where

@@ -55,12 +55,14 @@ again : (form : StateForm) (words old new : List Word) → IsForm form → is_tr
 again (Flip D trigger) words old new good h = (level_before trigger (bit_at old 1) (bit_at new 1) h, refl)
 again (Flip T trigger) words old new good h = absurd (no_edge trigger (bit_at new 1) good h)
 again (Flip Jk trigger) words old new good h = absurd (no_edge trigger (bit_at new 2) good h)
-again (Flip Sr trigger) words old new good h =
-    (level_before trigger (bit_at old 2) (bit_at new 2) h,
-     ap (λ b. (b ∷ []) ∷ []) (sr_again (bit_at words 0) (bit_at new 0) (bit_at new 1)))
-again (Register width trigger) words old new good h =
-    (level_before trigger (bit_at old 2) (bit_at new 2) h,
-     ap (λ w. w ∷ []) (registered_again (word_at words 0) (word_at new 0) (bit_at new 1)))
+again (Flip Sr trigger) words old new good h = (
+  level_before trigger (bit_at old 2) (bit_at new 2) h,
+  ap (λ b. (b ∷ []) ∷ []) (sr_again (bit_at words 0) (bit_at new 0) (bit_at new 1)),
+)
+again (Register width trigger) words old new good h = (
+  level_before trigger (bit_at old 2) (bit_at new 2) h,
+  ap (λ w. w ∷ []) (registered_again (word_at words 0) (word_at new 0) (bit_at new 1)),
+)
 again (Counter width max goal trigger) words old new good h = absurd (no_edge trigger (bit_at new 4) good.2 h)
 again (Shift width stages parallel trigger) words old new good h = absurd (no_edge trigger (bit_at new 2) good.2 h)
 again (Rom address width contents) words old new good h = absurd (cc h)

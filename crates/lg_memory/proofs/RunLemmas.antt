@@ -154,18 +154,18 @@ lt_tells a b = lt_tells_from a b (ltb a b) refl
 pub star_none : (text : List ℕ) → position (λ c. eqb c 42) text ≡ None → All NotStar text
 star_none text h =
     elim (lt_tells (star_size text) (length text)) [
-      inl e ↦ absurd (cc (rw e.0 at h))
-    | inr e ↦ rw (take_all (star_size text) text e.1) at (has_star text).before
+      | inl e ↦ absurd (cc (rw e.0 at h))
+      | inr e ↦ rw (take_all (star_size text) text e.1) at (has_star text).before
     ]
 
 -- a text with a star
 pub star_some : (text : List ℕ) (k : ℕ) → position (λ c. eqb c 42) text ≡ Some k → (text ≡ take k text ++ 42 ∷ drop (k + 1) text) × All NotStar (take k text)
 star_some text k h =
     elim (lt_tells (star_size text) (length text)) [
-      inl e ↦
-        let found : star_size text ≡ k = cc (rw e.0 at h) in
-        (rw found at ((has_star text).at e.1), rw found at (has_star text).before)
-    | inr e ↦ absurd (cc (rw e.0 at h))
+      | inl e ↦
+          let found : star_size text ≡ k = cc (rw e.0 at h) in
+          (rw found at ((has_star text).at e.1), rw found at (has_star text).before)
+      | inr e ↦ absurd (cc (rw e.0 at h))
     ]
 
 -- a text without a star is no run where its number is too great or it is none
@@ -207,11 +207,15 @@ no_word most text k found none run is =
 pub is_times : (most : ℕ) (text : List ℕ) (k : ℕ) (run : Run) → position (λ c. eqb c 42) text ≡ Some k → Spells 10 (take k text) run.count → 1 ≤ run.count → run.count ≤ 1048576 → Spells 16 (drop (k + 1) text) run.value → run.value ≤ most → IsRun (most + 1) text run
 is_times most text k run found count some times value fits =
     let star = star_some text k found in
-    inr (take k text, drop (k + 1) text, record {
-      parts = star.0;
-      count = count;
-      some = some;
-      most = times;
-      spelled = value;
-      fits = omega (arith, fits);
-    })
+    inr (
+      take k text,
+      drop (k + 1) text,
+      record {
+        parts = star.0;
+        count = count;
+        some = some;
+        most = times;
+        spelled = value;
+        fits = omega (arith, fits);
+      },
+    )

@@ -56,13 +56,15 @@ gap_step : (bound c : ℕ) (rest : List ℕ) (runs : List Run) (lf inside sharp 
     → Same (AreRuns bound (uncommented true rest) runs) (AreRuns bound (uncommented false (after_gap true rest)) runs)
     → Same (AreRuns bound (cond lf (c ∷ uncommented false rest) (cond hash (uncommented true rest) (c ∷ uncommented false rest))) runs)
     (AreRuns bound (uncommented false (cond lf (after_gap false rest) (cond hash (after_gap true rest) (cond white (after_gap false rest) (c ∷ rest))))) runs)
-gap_step bound c rest runs true inside sharp hash white a b d e free closed =
-    (λ h. free.0 (white_off bound c (uncommented false rest) runs (line_feed c a) h),
-     λ h. white_on bound c (uncommented false rest) runs (line_feed c a) (free.1 h))
+gap_step bound c rest runs true inside sharp hash white a b d e free closed = (
+  λ h. free.0 (white_off bound c (uncommented false rest) runs (line_feed c a) h),
+  λ h. white_on bound c (uncommented false rest) runs (line_feed c a) (free.1 h),
+)
 gap_step bound c rest runs false inside sharp true white a b d e free closed = closed
-gap_step bound c rest runs false inside sharp false true a b d e free closed =
-    (λ h. free.0 (white_off bound c (uncommented false rest) runs e h),
-     λ h. white_on bound c (uncommented false rest) runs e (free.1 h))
+gap_step bound c rest runs false inside sharp false true a b d e free closed = (
+  λ h. free.0 (white_off bound c (uncommented false rest) runs e h),
+  λ h. white_on bound c (uncommented false rest) runs e (free.1 h),
+)
 gap_step bound c rest runs false inside sharp false false a b d e free closed =
     let plain = stays c rest a (b ∙ (or_false inside sharp d).1) in
     (λ h. rw plain h, λ h. rw plain at h)

@@ -31,9 +31,10 @@ AreWords-from_widths (w ∷ words) (suc count) width h =
     (ap suc rest.0, All-cons (λ word. length word ≡ width) w words first rest.1)
 
 pub AreWords-shifted : (si : Word) (stages : List Word) (count width : ℕ) → length si ≡ width → AreWords count width stages → AreWords count width (shifted si stages)
-AreWords-shifted si stages count width first held =
-    (length-take-le (length stages) (si ∷ stages) (omega arith) ∙ held.0,
-     All-take (λ word. length word ≡ width) (length stages) (si ∷ stages) (All-cons (λ word. length word ≡ width) si stages first held.1))
+AreWords-shifted si stages count width first held = (
+  length-take-le (length stages) (si ∷ stages) (omega arith) ∙ held.0,
+  All-take (λ word. length word ≡ width) (length stages) (si ∷ stages) (All-cons (λ word. length word ≡ width) si stages first held.1),
+)
 
 -- what holds of the words that are loaded, of those that are held and of the shifted ones
 pub loads_or_shifts-any : (P : List Word → Type 0) (ld sh : Bit) (d held next : List Word) → (ld ≡ One → P d) → P held → P next → P (loads_or_shifts ld sh d held next)

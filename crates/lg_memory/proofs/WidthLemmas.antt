@@ -71,9 +71,10 @@ AreHeld-triggered (Ram address width trigger) words inputs held fits =
     (length-word_at inputs (address ∷ width ∷ 1 ∷ 1 ∷ []) 1 fits) held
 
 copies_held : (count width : ℕ) → AreWords count width (replicate count (replicate width Zero))
-copies_held count width =
-    (length-replicate count (replicate width Zero),
-     All-replicate (λ w. length w ≡ width) count (replicate width Zero) (length-replicate width Zero))
+copies_held count width = (
+  length-replicate count (replicate width Zero),
+  All-replicate (λ w. length w ≡ width) count (replicate width Zero) (length-replicate width Zero),
+)
 
 AreHeld-start : (form : StateForm) → AreHeld form (start_words form)
 AreHeld-start (Flip kind trigger) = one_held (replicate 1 Zero) 1 refl
@@ -104,8 +105,8 @@ widths-AreWords (w ∷ words) (suc count) width held =
 length-ram_read : (words : List Word) (address : Word) (count width : ℕ) → AreWords count width words → count ≡ 2 ^ length address → length (ram_read width words (defined_number address)) ≡ width
 length-ram_read words address count width held whole =
     elim (list_all is_defined_bit address) as (λ b. length (ram_read width words (cond b (Some (number_of address)) None)) ≡ width) [
-      true ↦ held_width words count width (number_of address) held (omega (arith, whole, number_of-lt address))
-    | false ↦ length-replicate width Error
+      | true ↦ held_width words count width (number_of address) held (omega (arith, whole, number_of-lt address))
+      | false ↦ length-replicate width Error
     ]
 
 length-rom_read : (width : ℕ) (contents : List ℕ) (address : Option ℕ) → length (rom_read width contents address) ≡ width

@@ -19,7 +19,14 @@ pub fn counter_word(goal: Goal, width: u32, max: u64, held: &Word, inputs: &[Wor
     match (bit_at(inputs, 1), bit_at(inputs, 3)) {
         (Bit::One, _) => inputs[0],
         (_, Bit::Zero) => *held,
-        _ => counted(goal, width, max, &inputs[0], bit_at(inputs, 2), defined_number(held)),
+        _ => counted(
+            goal,
+            width,
+            max,
+            &inputs[0],
+            bit_at(inputs, 2),
+            defined_number(held),
+        ),
     }
 }
 

@@ -67,9 +67,7 @@ fn is_triggered(form: &StateForm, old: &[Word], new: &[Word]) -> bool
     ensures { result ≡ is_triggered (clock_of form.now) old.now new.now }
 {
     match form {
-        StateForm::Flip { kind, trigger } => {
-            triggers_at(*trigger, data_inputs(*kind), old, new)
-        }
+        StateForm::Flip { kind, trigger } => { triggers_at(*trigger, data_inputs(*kind), old, new) }
         StateForm::Register { trigger, .. } | StateForm::Shift { trigger, .. } => {
             triggers_at(*trigger, 2, old, new)
         }

@@ -49,9 +49,15 @@ pub enum Goal {
 #[derive(Debug, Drop)]
 pub enum StateForm {
     /// A flip-flop, with the outputs `q` and `nq`.
-    Flip { kind: FlipKind, trigger: Trigger },
+    Flip {
+        kind: FlipKind,
+        trigger: Trigger,
+    },
     /// Inputs `d`, `en`, `clk`, `clr`.
-    Register { width: u32, trigger: Trigger },
+    Register {
+        width: u32,
+        trigger: Trigger,
+    },
     /// Inputs `d`, `ld`, `ud`, `en`, `clk`, `clr`; outputs `q` and `carry`. `max` is below 2 to the width.
     Counter {
         width: u32,

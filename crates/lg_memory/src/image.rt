@@ -16,7 +16,12 @@ use std::alloc::{AllocError, Global};
 /// The image is the line `v2.0 raw` and then words in hexadecimal digits, with white space between them; `N*V` is the
 /// word `V` N times, and `#` begins a comment that ends with its line. There may be at most `words` words. What is read
 /// takes no more memory than they do.
-pub fn read_image(alloc: Global, bytes: &[u8], width: u32, words: u32) -> Result<Vec<u64>, ImageFault>
+pub fn read_image(
+    alloc: Global,
+    bytes: &[u8],
+    width: u32,
+    words: u32,
+) -> Result<Vec<u64>, ImageFault>
     requires { IsWidth width }
     ensures found { IfOk result (λ read. IsImage width bytes.now read.items × (length read.items ≤ words)) }
     // An image is read as its words, unless there are too many or memory runs out.

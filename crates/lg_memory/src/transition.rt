@@ -64,9 +64,12 @@ fn updated(form: &StateForm, held: &Word, inputs: &[Word]) -> Word
     match form {
         StateForm::Flip { kind, .. } => Word::fill(1, flip_stored(*kind, held.bit(0), inputs)),
         StateForm::Register { .. } => registered(held, &inputs[0], bit_at(inputs, 1)),
-        StateForm::Counter { width, max, goal, .. } => {
-            counter_word(*goal, *width, *max, held, inputs)
-        }
+        StateForm::Counter {
+            width,
+            max,
+            goal,
+            ..
+        } => { counter_word(*goal, *width, *max, held, inputs) }
         StateForm::Shift { .. } | StateForm::Rom { .. } | StateForm::Ram { .. } => unreachable!(),
     }
 }

@@ -45,30 +45,154 @@ fn after_d(trigger: Trigger, q: Bit, before: Bit, inputs: [Bit; 4]) -> (Bit, Bit
 #[test]
 fn d_stores_at_its_trigger_and_clears_before_it_presets(rt: HostRuntime) {
     let table = [
-        (Trigger::Rising, Zero, Zero, [One, One, Zero, Zero], (One, Zero)),
-        (Trigger::Rising, Zero, One, [One, One, Zero, Zero], (Zero, One)),
-        (Trigger::Rising, Zero, Unknown, [One, One, Zero, Zero], (Zero, One)),
-        (Trigger::Rising, Zero, Zero, [One, Unknown, Zero, Zero], (Zero, One)),
-        (Trigger::Rising, Zero, Zero, [Unknown, One, Zero, Zero], (Unknown, Error)),
-        (Trigger::Rising, Zero, Zero, [Error, One, Zero, Zero], (Error, Error)),
-        (Trigger::Falling, One, One, [Zero, Zero, Zero, Zero], (Zero, One)),
-        (Trigger::Falling, One, Zero, [Zero, One, Zero, Zero], (One, Zero)),
-        (Trigger::Falling, One, Unknown, [Zero, Zero, Zero, Zero], (One, Zero)),
-        (Trigger::High, Zero, One, [One, One, Zero, Zero], (One, Zero)),
-        (Trigger::High, Zero, One, [One, Zero, Zero, Zero], (Zero, One)),
-        (Trigger::High, Zero, Zero, [One, Unknown, Zero, Zero], (Zero, One)),
-        (Trigger::Low, Zero, Zero, [One, Zero, Zero, Zero], (One, Zero)),
-        (Trigger::Low, Zero, Zero, [One, One, Zero, Zero], (Zero, One)),
-        (Trigger::Rising, Zero, One, [Zero, One, One, Zero], (One, Zero)),
-        (Trigger::Rising, One, One, [One, One, Zero, One], (Zero, One)),
+        (
+            Trigger::Rising,
+            Zero,
+            Zero,
+            [One, One, Zero, Zero],
+            (One, Zero),
+        ),
+        (
+            Trigger::Rising,
+            Zero,
+            One,
+            [One, One, Zero, Zero],
+            (Zero, One),
+        ),
+        (
+            Trigger::Rising,
+            Zero,
+            Unknown,
+            [One, One, Zero, Zero],
+            (Zero, One),
+        ),
+        (
+            Trigger::Rising,
+            Zero,
+            Zero,
+            [One, Unknown, Zero, Zero],
+            (Zero, One),
+        ),
+        (
+            Trigger::Rising,
+            Zero,
+            Zero,
+            [Unknown, One, Zero, Zero],
+            (Unknown, Error),
+        ),
+        (
+            Trigger::Rising,
+            Zero,
+            Zero,
+            [Error, One, Zero, Zero],
+            (Error, Error),
+        ),
+        (
+            Trigger::Falling,
+            One,
+            One,
+            [Zero, Zero, Zero, Zero],
+            (Zero, One),
+        ),
+        (
+            Trigger::Falling,
+            One,
+            Zero,
+            [Zero, One, Zero, Zero],
+            (One, Zero),
+        ),
+        (
+            Trigger::Falling,
+            One,
+            Unknown,
+            [Zero, Zero, Zero, Zero],
+            (One, Zero),
+        ),
+        (
+            Trigger::High,
+            Zero,
+            One,
+            [One, One, Zero, Zero],
+            (One, Zero),
+        ),
+        (
+            Trigger::High,
+            Zero,
+            One,
+            [One, Zero, Zero, Zero],
+            (Zero, One),
+        ),
+        (
+            Trigger::High,
+            Zero,
+            Zero,
+            [One, Unknown, Zero, Zero],
+            (Zero, One),
+        ),
+        (
+            Trigger::Low,
+            Zero,
+            Zero,
+            [One, Zero, Zero, Zero],
+            (One, Zero),
+        ),
+        (
+            Trigger::Low,
+            Zero,
+            Zero,
+            [One, One, Zero, Zero],
+            (Zero, One),
+        ),
+        (
+            Trigger::Rising,
+            Zero,
+            One,
+            [Zero, One, One, Zero],
+            (One, Zero),
+        ),
+        (
+            Trigger::Rising,
+            One,
+            One,
+            [One, One, Zero, One],
+            (Zero, One),
+        ),
         (Trigger::Rising, One, One, [One, One, One, One], (Zero, One)),
-        (Trigger::Rising, Zero, Zero, [One, One, Zero, One], (Zero, One)),
-        (Trigger::Rising, Zero, Zero, [Zero, One, One, Zero], (One, Zero)),
-        (Trigger::Rising, One, One, [One, One, Zero, Unknown], (One, Zero)),
-        (Trigger::Rising, Zero, One, [One, One, Error, Zero], (Zero, One)),
+        (
+            Trigger::Rising,
+            Zero,
+            Zero,
+            [One, One, Zero, One],
+            (Zero, One),
+        ),
+        (
+            Trigger::Rising,
+            Zero,
+            Zero,
+            [Zero, One, One, Zero],
+            (One, Zero),
+        ),
+        (
+            Trigger::Rising,
+            One,
+            One,
+            [One, One, Zero, Unknown],
+            (One, Zero),
+        ),
+        (
+            Trigger::Rising,
+            Zero,
+            One,
+            [One, One, Error, Zero],
+            (Zero, One),
+        ),
     ];
     for (trigger, q, before, inputs, want) in table {
-        assert_eq!(rt; after_d(trigger, q, before, inputs), want, "{trigger:?} {q:?} {inputs:?}");
+        assert_eq!(rt;
+            after_d(trigger, q, before, inputs),
+            want,
+            "{trigger:?} {q:?} {inputs:?}"
+        );
     }
 }
 
@@ -146,7 +270,13 @@ fn jk_holds_clears_sets_and_inverts(rt: HostRuntime) {
 }
 
 // A step of an S-R flip-flop without preset.
-fn after_sr(trigger: Trigger, q: Bit, data: (Bit, Bit), clock: (Bit, Bit), clear: Bit) -> (Bit, Bit) {
+fn after_sr(
+    trigger: Trigger,
+    q: Bit,
+    data: (Bit, Bit),
+    clock: (Bit, Bit),
+    clear: Bit,
+) -> (Bit, Bit) {
     let form = StateForm::Flip {
         kind: FlipKind::Sr,
         trigger,
@@ -161,22 +291,124 @@ fn after_sr(trigger: Trigger, q: Bit, data: (Bit, Bit), clock: (Bit, Bit), clear
 #[test]
 fn sr_holds_where_both_are_one(rt: HostRuntime) {
     let table = [
-        (Trigger::Rising, Zero, (One, One), (Zero, One), Zero, (Zero, One)),
-        (Trigger::Rising, One, (One, One), (Zero, One), Zero, (One, Zero)),
-        (Trigger::Rising, One, (Zero, Zero), (Zero, One), Zero, (One, Zero)),
-        (Trigger::Rising, One, (Zero, One), (Zero, One), Zero, (Zero, One)),
-        (Trigger::Rising, Zero, (One, Zero), (Zero, One), Zero, (One, Zero)),
-        (Trigger::Falling, Zero, (One, Zero), (One, Zero), Zero, (One, Zero)),
-        (Trigger::Falling, Zero, (One, Zero), (Zero, One), Zero, (Zero, One)),
-        (Trigger::High, Zero, (One, Zero), (One, One), Zero, (One, Zero)),
-        (Trigger::High, Zero, (One, Zero), (One, Zero), Zero, (Zero, One)),
-        (Trigger::Low, Zero, (One, Zero), (Unknown, Zero), Zero, (One, Zero)),
-        (Trigger::Low, Zero, (One, Zero), (One, One), Zero, (Zero, One)),
-        (Trigger::High, Zero, (Unknown, Zero), (One, One), Zero, (Error, Error)),
-        (Trigger::High, One, (One, Error), (One, One), Zero, (Error, Error)),
-        (Trigger::High, One, (One, Zero), (One, One), One, (Zero, One)),
+        (
+            Trigger::Rising,
+            Zero,
+            (One, One),
+            (Zero, One),
+            Zero,
+            (Zero, One),
+        ),
+        (
+            Trigger::Rising,
+            One,
+            (One, One),
+            (Zero, One),
+            Zero,
+            (One, Zero),
+        ),
+        (
+            Trigger::Rising,
+            One,
+            (Zero, Zero),
+            (Zero, One),
+            Zero,
+            (One, Zero),
+        ),
+        (
+            Trigger::Rising,
+            One,
+            (Zero, One),
+            (Zero, One),
+            Zero,
+            (Zero, One),
+        ),
+        (
+            Trigger::Rising,
+            Zero,
+            (One, Zero),
+            (Zero, One),
+            Zero,
+            (One, Zero),
+        ),
+        (
+            Trigger::Falling,
+            Zero,
+            (One, Zero),
+            (One, Zero),
+            Zero,
+            (One, Zero),
+        ),
+        (
+            Trigger::Falling,
+            Zero,
+            (One, Zero),
+            (Zero, One),
+            Zero,
+            (Zero, One),
+        ),
+        (
+            Trigger::High,
+            Zero,
+            (One, Zero),
+            (One, One),
+            Zero,
+            (One, Zero),
+        ),
+        (
+            Trigger::High,
+            Zero,
+            (One, Zero),
+            (One, Zero),
+            Zero,
+            (Zero, One),
+        ),
+        (
+            Trigger::Low,
+            Zero,
+            (One, Zero),
+            (Unknown, Zero),
+            Zero,
+            (One, Zero),
+        ),
+        (
+            Trigger::Low,
+            Zero,
+            (One, Zero),
+            (One, One),
+            Zero,
+            (Zero, One),
+        ),
+        (
+            Trigger::High,
+            Zero,
+            (Unknown, Zero),
+            (One, One),
+            Zero,
+            (Error, Error),
+        ),
+        (
+            Trigger::High,
+            One,
+            (One, Error),
+            (One, One),
+            Zero,
+            (Error, Error),
+        ),
+        (
+            Trigger::High,
+            One,
+            (One, Zero),
+            (One, One),
+            One,
+            (Zero, One),
+        ),
     ];
     for (trigger, q, data, clock, clear, want) in table {
-        assert_eq!(rt; after_sr(trigger, q, data, clock, clear), want, "{trigger:?} {q:?} {data:?}");
+        assert_eq!(rt;
+            after_sr(trigger, q, data, clock, clear),
+            want,
+            "{trigger:?} {q:?} {data:?}"
+        );
     }
 }

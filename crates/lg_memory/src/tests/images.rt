@@ -29,11 +29,35 @@ fn images_of_words_runs_and_comments(rt: HostRuntime) {
     assert!(rt; reads(rt.alloc(), worked, 8, 5, &[5, 5, 5, 10, 0]));
     assert!(rt; reads(rt.alloc(), b"v2.0 raw\n3*5 # a 0", 8, 8, &[5, 5, 5]));
     assert!(rt; reads(rt.alloc(), b"v2.0 raw\n3*5#a\n0\t\n", 8, 8, &[5, 5, 5, 0]));
-    assert!(rt; reads(rt.alloc(), b"v2.0 raw\r\n 1\r\nF # f\r\n002*00fF\r\n", 8, 8, &[1, 15, 255, 255]));
+    assert!(rt;
+        reads(
+            rt.alloc(),
+            b"v2.0 raw\r\n 1\r\nF # f\r\n002*00fF\r\n",
+            8,
+            8,
+            &[1, 15, 255, 255]
+        )
+    );
     assert!(rt; reads(rt.alloc(), b"v2.0 raw\n", 1, 0, &[]));
     assert!(rt; reads(rt.alloc(), b"v2.0 raw\n# no word", 1, 0, &[]));
-    assert!(rt; reads(rt.alloc(), b"v2.0 raw\n00000000000000000ffffffffffffffff", 64, 1, &[u64::MAX]));
-    assert!(rt; reads(rt.alloc(), b"v2.0 raw\n10 10*1", 8, 11, &[16, 1, 1, 1, 1, 1, 1, 1, 1, 1, 1]));
+    assert!(rt;
+        reads(
+            rt.alloc(),
+            b"v2.0 raw\n00000000000000000ffffffffffffffff",
+            64,
+            1,
+            &[u64::MAX]
+        )
+    );
+    assert!(rt;
+        reads(
+            rt.alloc(),
+            b"v2.0 raw\n10 10*1",
+            8,
+            11,
+            &[16, 1, 1, 1, 1, 1, 1, 1, 1, 1, 1]
+        )
+    );
 }
 
 #[test]
@@ -55,9 +79,16 @@ fn texts_that_are_no_images(rt: HostRuntime) {
         b"v2.0 raw\n1 1 1 1 1 1 1 1 1 -1",
     ];
     for text in table {
-        assert_eq!(rt; refusal(rt.alloc(), text, 8, 8), Some(ImageFault::NotImage), "{text:?}");
+        assert_eq!(rt;
+            refusal(rt.alloc(), text, 8, 8),
+            Some(ImageFault::NotImage),
+            "{text:?}"
+        );
     }
-    assert_eq!(rt; refusal(rt.alloc(), b"v2.0 raw\n10000000000000000", 64, 8), Some(ImageFault::NotImage));
+    assert_eq!(rt;
+        refusal(rt.alloc(), b"v2.0 raw\n10000000000000000", 64, 8),
+        Some(ImageFault::NotImage)
+    );
 }
 
 #[test]

@@ -41,7 +41,11 @@ fn register_stores_unless_its_enable_is_zero(rt: HostRuntime) {
         (Trigger::Rising, Zero, [One, One, One], 0),
     ];
     for (trigger, before, inputs, want) in table {
-        assert_eq!(rt; register_after(trigger, before, inputs), Word::from_number(4, want), "{trigger:?} {inputs:?}");
+        assert_eq!(rt;
+            register_after(trigger, before, inputs),
+            Word::from_number(4, want),
+            "{trigger:?} {inputs:?}"
+        );
     }
 }
 
@@ -67,6 +71,7 @@ fn counter_after(goal: Goal, held: Word, controls: [Bit; 4]) -> (Word, Word)
 }
 
 const UP: [Bit; 4] = [Zero, One, One, Zero];
+
 const DOWN: [Bit; 4] = [Zero, Zero, One, Zero];
 
 #[test]
@@ -93,7 +98,11 @@ fn counter_counts_to_both_ends_under_each_goal(rt: HostRuntime) {
     ];
     for (goal, held, controls, want, carry) in table {
         let got = counter_after(goal, Word::from_number(2, held), controls);
-        assert_eq!(rt; got, (Word::from_number(2, want), one(carry)), "{goal:?} {held} {controls:?}");
+        assert_eq!(rt;
+            got,
+            (Word::from_number(2, want), one(carry)),
+            "{goal:?} {held} {controls:?}"
+        );
     }
 }
 
@@ -110,7 +119,11 @@ fn counted_undefined_number_is_an_error_in_each_bit(rt: HostRuntime) {
         (Goal::Wrap, [One, One, One, Zero], Word::from_number(2, 1)),
     ];
     for (goal, controls, want) in table {
-        assert_eq!(rt; counter_after(goal, held, controls), (want, one(Zero)), "{goal:?} {controls:?}");
+        assert_eq!(rt;
+            counter_after(goal, held, controls),
+            (want, one(Zero)),
+            "{goal:?} {controls:?}"
+        );
     }
 }
 

@@ -71,15 +71,48 @@ fn parallel_stages_load_and_shift(rt: HostRuntime) {
     let Ok(mut state) = start(rt.alloc(), &form) else {
         panic!(rt; "memory");
     };
-    let high = [byte(9), one(One), one(One), one(Zero), one(Zero), byte(3), byte(4)];
-    let load = [byte(9), one(Zero), one(Zero), one(Zero), one(One), byte(3), byte(4)];
-    let shift = [byte(9), one(Unknown), one(Zero), one(Zero), one(Unknown), byte(3), byte(4)];
+    let high = [
+        byte(9),
+        one(One),
+        one(One),
+        one(Zero),
+        one(Zero),
+        byte(3),
+        byte(4),
+    ];
+    let load = [
+        byte(9),
+        one(Zero),
+        one(Zero),
+        one(Zero),
+        one(One),
+        byte(3),
+        byte(4),
+    ];
+    let shift = [
+        byte(9),
+        one(Unknown),
+        one(Zero),
+        one(Zero),
+        one(Unknown),
+        byte(3),
+        byte(4),
+    ];
     step(&form, &mut state, &high, &load);
-    assert_eq!(rt; (out(&form, &state, &high, 0), out(&form, &state, &high, 1)), (byte(3), byte(4)));
+    assert_eq!(rt;
+        (out(&form, &state, &high, 0), out(&form, &state, &high, 1)),
+        (byte(3), byte(4))
+    );
     step(&form, &mut state, &high, &shift);
-    assert_eq!(rt; (out(&form, &state, &high, 0), out(&form, &state, &high, 1)), (byte(9), byte(3)));
+    assert_eq!(rt;
+        (out(&form, &state, &high, 0), out(&form, &state, &high, 1)),
+        (byte(9), byte(3))
+    );
     renew(&form, &mut state);
-    assert_eq!(rt; (out(&form, &state, &high, 0), out(&form, &state, &high, 1)), (byte(0), byte(0)));
+    assert_eq!(rt;
+        (out(&form, &state, &high, 0), out(&form, &state, &high, 1)),
+        (byte(0), byte(0))
+    );
 }
 
 #[test]
@@ -109,11 +142,23 @@ fn rom_reads_its_words_and_zeros_behind_them(rt: HostRuntime) {
         width: 8,
         words: Items::from_vec(words),
     };
-    assert_eq!(rt; out(&form, &State::None, &[Word::from_number(2, 0)], 0), byte(5));
-    assert_eq!(rt; out(&form, &State::None, &[Word::from_number(2, 1)], 0), byte(7));
-    assert_eq!(rt; out(&form, &State::None, &[Word::from_number(2, 2)], 0), byte(0));
+    assert_eq!(rt;
+        out(&form, &State::None, &[Word::from_number(2, 0)], 0),
+        byte(5)
+    );
+    assert_eq!(rt;
+        out(&form, &State::None, &[Word::from_number(2, 1)], 0),
+        byte(7)
+    );
+    assert_eq!(rt;
+        out(&form, &State::None, &[Word::from_number(2, 2)], 0),
+        byte(0)
+    );
     let undefined = Word::from_number(2, 0).with_bit(1, Unknown);
-    assert_eq!(rt; out(&form, &State::None, &[undefined], 0), Word::fill(8, Error));
+    assert_eq!(rt;
+        out(&form, &State::None, &[undefined], 0),
+        Word::fill(8, Error)
+    );
 }
 
 #[test]
@@ -133,13 +178,28 @@ fn ram_stores_where_its_write_enable_is_one(rt: HostRuntime) {
     assert_eq!(rt; out(&form, &state, &low, 0), byte(0));
     step(&form, &mut state, &low, &high);
     assert_eq!(rt; out(&form, &state, &high, 0), byte(5));
-    step(&form, &mut state, &low, &[two, byte(6), one(Unknown), one(One)]);
+    step(
+        &form,
+        &mut state,
+        &low,
+        &[two, byte(6), one(Unknown), one(One)],
+    );
     assert_eq!(rt; out(&form, &state, &high, 0), byte(5));
-    step(&form, &mut state, &low, &[undefined, byte(6), one(One), one(One)]);
+    step(
+        &form,
+        &mut state,
+        &low,
+        &[undefined, byte(6), one(One), one(One)],
+    );
     assert_eq!(rt; out(&form, &state, &high, 0), byte(5));
     let lost = [undefined, byte(6), one(One), one(One)];
     assert_eq!(rt; out(&form, &state, &lost, 0), Word::fill(8, Error));
-    step(&form, &mut state, &low, &[two, Word::fill(8, Unknown), one(One), one(One)]);
+    step(
+        &form,
+        &mut state,
+        &low,
+        &[two, Word::fill(8, Unknown), one(One), one(One)],
+    );
     assert_eq!(rt; out(&form, &state, &high, 0), Word::fill(8, Unknown));
 }
 

@@ -1,5 +1,5 @@
 use Rattle.lg_memory.specs.Shape.{HasShape}
 use Rattle.lg_memory.proofs.tests.stores.repeat.Given as goal
 
-abbrev pub invariant-loop-_time : goal.invariant-loop-_time
-invariant-loop-_time l = HasShape l.form l.state
+abbrev pub invariant-loop-time : goal.invariant-loop-time
+invariant-loop-time l = HasShape l.form l.state
