@@ -2,7 +2,7 @@
 use Rattle.std.proofs.Common.{◌≡◌, ◌≢◌, ℕ, Bool, true, false, List, [], ◌∷◌, length, get_or, map, refl, Some}
 use Rattle.std.specs.Prelude.{slice_get}
 use Rattle.lg_value.specs.declared.bit.Bit.{Bit}
-use Rattle.lg_value.specs.declared.bit.Bit.TheVariants.{Zero, One, Unknown, Error}
+use Rattle.lg_value.specs.declared.bit.Bit.TheVariants.{Zero, One}
 use Rattle.lg_memory.specs.Inputs.{Word, word_at}
 use Rattle.lg_memory.specs.Counter.{registered, loads_or_counts}
 use Rattle.lg_memory.specs.declared.form.StateForm.{StateForm}

@@ -1,9 +1,9 @@
 -- Defined inputs and words give defined words and outputs.
-use Rattle.std.proofs.Common.{◌≡◌, ℕ, zero, suc, ◌+◌, ◌-◌, ◌^◌, ◌<◌, ◌≤◌, Bool, true, false, cond, eqb, ◌⊎◌, inl, inr, List, [], ◌∷◌, length, get_or, map, drop, take, replicate, refl, arith, Option, None, Some}
-use Rattle.std.specs.List.{All, list_all}
+use Rattle.std.proofs.Common.{◌≡◌, ℕ, zero, suc, ◌+◌, ◌-◌, ◌^◌, ◌<◌, Bool, true, false, cond, eqb, ◌⊎◌, inl, inr, List, [], ◌∷◌, length, get_or, map, drop, replicate, refl, arith, Option, None, Some}
+use Rattle.std.specs.List.{All}
 use Rattle.std.proofs.lemmas.List.Elements.{All-nil, All-cons, All-head, All-tail, All-replicate, All-map, All-take, All-drop, All-set}
 use Rattle.lg_value.specs.declared.bit.Bit.{Bit}
-use Rattle.lg_value.specs.declared.bit.Bit.TheVariants.{Zero, One, Unknown, Error}
+use Rattle.lg_value.specs.declared.bit.Bit.TheVariants.{Zero, One, Unknown}
 use Rattle.lg_value.specs.Bit.{is_defined_bit, not_bit}
 use Rattle.lg_value.specs.Word.{IsDefined, number_of, word_of_number}
 use Rattle.lg_value.proofs.WordLemmas.{IsDefined-word_of_number}
@@ -21,7 +21,7 @@ use Rattle.lg_memory.specs.FlipFlop.{toggled, jk_stored, sr_stored, flip_stored}
 use Rattle.lg_memory.specs.Counter.{past_greatest, below_zero, counted, carry}
 use Rattle.lg_memory.specs.ShiftRegister.{load_bit, shifted}
 use Rattle.lg_memory.specs.Storage.{stored_at, ram_read, rom_read}
-use Rattle.lg_memory.specs.Step.{start_words, triggered_words, stepped, shown_stages, outputs}
+use Rattle.lg_memory.specs.Step.{start_words, triggered_words, stepped, outputs}
 use Rattle.lg_memory.proofs.NumberLemmas.{defined_is, is_defined, test-IsDefined}
 use Rattle.lg_memory.proofs.CaseLemmas.{loads_or_counts-any, registered-any, words_after-any}
 use Rattle.lg_memory.proofs.ShapeLemmas.{length-word_at, loads_or_shifts-any}

@@ -1,16 +1,16 @@
 -- The words of an image, run by run.
-use Rattle.std.proofs.Common.{◌≡◌, ◌≢◌, ℕ, zero, suc, ◌+◌, ◌<◌, ◌≤◌, Bool, true, false, cond, eqb, ◌⊎◌, inl, inr, List, [], ◌∷◌, ◌++◌, length, take, drop, refl, ap, sym, ◌∙◌, arith, append_assoc, replicate, length-append, length-take, length-drop, get_or, ◌^◌}
+use Rattle.std.proofs.Common.{◌≡◌, ℕ, suc, ◌+◌, ◌<◌, ◌≤◌, Bool, true, false, cond, eqb, inl, inr, List, [], ◌∷◌, ◌++◌, length, take, drop, refl, ap, sym, ◌∙◌, arith, append_assoc, replicate, length-append, length-take, length-drop, get_or, ◌^◌}
 use Rattle.std.specs.Prelude.{◌||◌, not, codes}
-use Rattle.std.specs.List.{All, prefix_len, flat_map}
+use Rattle.std.specs.List.{All, prefix_len}
 use Rattle.std.proofs.lemmas.Bool.Decides.{eqb_tells}
 use Rattle.std.proofs.lemmas.List.{append-nil, append_cancel_left}
 use Rattle.std.proofs.lemmas.List.Concat.{flat_map-cons}
-use Rattle.std.proofs.lemmas.List.Elements.{All-nil, All-cons, All-head, All-tail}
+use Rattle.std.proofs.lemmas.List.Elements.{All-nil, All-cons, All-head}
 use Rattle.lg_memory.specs.declared.run.Run.{Run}
 use Rattle.lg_memory.specs.Image.{is_white, uncommented, IsRun, EndsOrStarts, AreRuns, words_of_runs, HasWords, HasHeader, IsImage}
 use Rattle.lg_memory.specs.Scan.{after_gap, is_word_byte, Keeps, GoesOn}
 use Rattle.lg_memory.proofs.RunLemmas.{run_some, run_not_white, cut_alike, IsRun-same}
-use Rattle.lg_memory.proofs.ScanLemmas.{IsWhite, NotWhite, or_false, line_feed, stays, gap_same, after_gap-starts}
+use Rattle.lg_memory.proofs.ScanLemmas.{IsWhite, NotWhite, line_feed, stays, gap_same, after_gap-starts}
 
 -- how long the word is with which a text begins
 abbrev word_size : List ℕ → ℕ

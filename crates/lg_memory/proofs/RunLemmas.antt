@@ -1,5 +1,5 @@
 -- Numbers and runs: what their characters are, and that a text is one run at most.
-use Rattle.std.proofs.Common.{◌≡◌, ◌≢◌, ℕ, zero, suc, ◌+◌, ◌-◌, ◌*◌, ◌<◌, ◌≤◌, Bool, true, false, cond, eqb, ltb, ◌⊎◌, inl, inr, List, [], ◌∷◌, ◌++◌, length, refl, ap, sym, ◌∙◌, arith, length-append, length-drop, take, drop, None, Some}
+use Rattle.std.proofs.Common.{◌≡◌, ℕ, suc, ◌+◌, ◌-◌, ◌<◌, ◌≤◌, Bool, true, false, cond, eqb, ltb, ◌⊎◌, inl, inr, List, [], ◌∷◌, ◌++◌, length, refl, ap, sym, ◌∙◌, arith, length-append, length-drop, take, drop, None, Some}
 use Rattle.std.specs.Prelude.{not}
 use Rattle.std.specs.List.{All, prefix_len, position}
 use Rattle.std.proofs.lemmas.Bool.{eqb-true}
@@ -7,7 +7,7 @@ use Rattle.std.proofs.lemmas.List.{take_all}
 use Rattle.std.proofs.lemmas.Bool.Decides.{nat_tests, Decides-ltb}
 use Rattle.std.proofs.lemmas.List.Elements.{All-nil, All-cons, All-head, All-tail, All-append}
 use Rattle.lg_memory.specs.declared.run.Run.{Run}
-use Rattle.lg_memory.specs.Image.{is_white, digit_value, number_in, Spells, IsValue, IsTimes, IsRun, EndsOrStarts}
+use Rattle.lg_memory.specs.Image.{is_white, digit_value, Spells, IsTimes, IsRun, EndsOrStarts}
 
 -- a test that would prove absurd is false
 pub false_from : (b : Bool) → (b ≡ true → ⊥) → b ≡ false

@@ -1,13 +1,13 @@
 -- What is found from the front of an image on.
-use Rattle.std.proofs.Common.{◌≡◌, ◌≢◌, ℕ, zero, suc, ◌+◌, ◌<◌, ◌≤◌, Bool, true, false, cond, eqb, ◌⊎◌, inl, inr, List, [], ◌∷◌, ◌++◌, length, take, drop, refl, ap, sym, ◌∙◌, arith, append_assoc, replicate}
-use Rattle.std.specs.Prelude.{◌||◌, not}
-use Rattle.std.specs.List.{All, prefix_len, flat_map}
+use Rattle.std.proofs.Common.{◌≡◌, ℕ, ◌≤◌, Bool, true, false, cond, eqb, List, [], ◌∷◌, ◌++◌, length, refl, ap, ◌∙◌, arith}
+use Rattle.std.specs.Prelude.{◌||◌}
+use Rattle.std.specs.List.{All}
 use Rattle.std.proofs.lemmas.Bool.{eqb-true}
-use Rattle.std.proofs.lemmas.List.Elements.{All-nil, All-cons, All-head, All-tail}
+use Rattle.std.proofs.lemmas.List.Elements.{All-cons, All-head, All-tail}
 use Rattle.lg_memory.specs.declared.run.Run.{Run}
-use Rattle.lg_memory.specs.Image.{is_white, uncommented, IsRun, EndsOrStarts, AreRuns, words_of_runs, HasWords}
-use Rattle.lg_memory.specs.Scan.{after_gap, is_word_byte, GoesOn}
-use Rattle.lg_memory.proofs.RunLemmas.{run_some, run_not_white, cut_alike, IsRun-same, All-weaker}
+use Rattle.lg_memory.specs.Image.{is_white, uncommented, EndsOrStarts, AreRuns}
+use Rattle.lg_memory.specs.Scan.{after_gap, is_word_byte}
+use Rattle.lg_memory.proofs.RunLemmas.{run_some, run_not_white}
 
 abbrev pub IsWhite : ℕ → Type 0
 IsWhite c = is_white c ≡ true

@@ -1,6 +1,5 @@
 -- Steps keep the number and the widths of the words.
-use Rattle.std.proofs.Common.{◌≡◌, ℕ, zero, suc, ◌+◌, ◌<◌, ◌≤◌, Bool, true, false, List, [], ◌∷◌, length, get_or, set, take, drop, map, replicate, refl, ap, ◌∙◌, arith, length-set, length-take-le, Option, None, Some}
-use Rattle.std.specs.List.{All}
+use Rattle.std.proofs.Common.{◌≡◌, ℕ, zero, suc, Bool, true, false, List, [], ◌∷◌, length, get_or, drop, map, replicate, refl, ap, ◌∙◌, arith, length-set, length-take-le, Option, None, Some}
 use Rattle.std.proofs.lemmas.List.Elements.{All-nil, All-cons, All-take, All-set}
 use Rattle.lg_value.specs.declared.bit.Bit.{Bit}
 use Rattle.lg_value.specs.declared.bit.Bit.TheVariants.{Zero, One, Unknown, Error}

@@ -1,5 +1,5 @@
 -- Stages that are shifted in place, from stage 0 on.
-use Rattle.std.proofs.Common.{◌≡◌, ℕ, suc, ◌+◌, ◌<◌, ◌≤◌, List, [], ◌∷◌, ◌++◌, length, get_or, set, take, drop, sym, refl, ap, ◌∙◌, arith, add-one, drop-cons, length-set}
+use Rattle.std.proofs.Common.{◌≡◌, ℕ, suc, ◌+◌, ◌<◌, List, [], ◌∷◌, length, get_or, set, take, drop, sym, ◌∙◌, arith, add-one, drop-cons, length-set}
 use Rattle.std.proofs.lemmas.List.{take_more, take_more_set, drop-set-lt}
 use Rattle.lg_memory.specs.Inputs.{Word}
 

@@ -1,12 +1,12 @@
 -- A step keeps the number of words and their widths, and outputs have the widths of their ports.
-use Rattle.std.proofs.Common.{◌≡◌, ℕ, zero, suc, ◌+◌, ◌-◌, ◌^◌, ◌<◌, ◌≤◌, Bool, true, false, cond, eqb, List, [], ◌∷◌, length, get_or, map, drop, replicate, refl, ap, sym, ◌∙◌, arith, Option, None, Some}
-use Rattle.std.specs.List.{All, list_all}
+use Rattle.std.proofs.Common.{◌≡◌, ℕ, zero, suc, ◌+◌, ◌-◌, ◌^◌, ◌<◌, Bool, true, false, cond, eqb, List, [], ◌∷◌, length, get_or, map, replicate, refl, arith, Option, None, Some}
+use Rattle.std.specs.List.{list_all}
 use Rattle.std.proofs.lemmas.List.{length-replicate, length-map}
 use Rattle.std.proofs.lemmas.List.Elements.{All-nil, All-cons, All-head, All-tail, All-replicate}
 use Rattle.lg_value.specs.declared.bit.Bit.{Bit}
-use Rattle.lg_value.specs.declared.bit.Bit.TheVariants.{Zero, One, Unknown, Error}
+use Rattle.lg_value.specs.declared.bit.Bit.TheVariants.{Zero, One, Error}
 use Rattle.lg_value.specs.Bit.{is_defined_bit, not_bit}
-use Rattle.lg_value.specs.Word.{IsWidth, number_of, word_of_number}
+use Rattle.lg_value.specs.Word.{number_of, word_of_number}
 use Rattle.lg_value.proofs.WordLemmas.{length-word_of_number, number_of-lt}
 use Rattle.lg_memory.specs.declared.form.Goal.{Goal}
 use Rattle.lg_memory.specs.declared.form.Goal.TheVariants.{Wrap, Stay, Continue, Load}
@@ -14,11 +14,11 @@ use Rattle.lg_memory.specs.declared.form.StateForm.{StateForm}
 use Rattle.lg_memory.specs.declared.form.StateForm.TheVariants.{Flip, Register, Counter, Shift, Rom, Ram}
 use Rattle.lg_memory.specs.Inputs.{Word, word_at, bit_at, defined_number}
 use Rattle.lg_memory.specs.Form.{IsForm}
-use Rattle.lg_memory.specs.Shape.{input_widths, output_widths, FitsInputs, AreWords, AreHeld, word_count, word_width}
+use Rattle.lg_memory.specs.Shape.{input_widths, output_widths, FitsInputs, AreWords, AreHeld}
 use Rattle.lg_memory.specs.Controls.{clock_of, clear_of, preset_of, is_one, is_triggered}
-use Rattle.lg_memory.specs.Counter.{past_greatest, below_zero, counted, counter_word, carry}
+use Rattle.lg_memory.specs.Counter.{past_greatest, below_zero, counted}
 use Rattle.lg_memory.specs.Storage.{ram_read, rom_read}
-use Rattle.lg_memory.specs.Step.{start_words, triggered_words, stepped, shown_stages, outputs}
+use Rattle.lg_memory.specs.Step.{start_words, triggered_words, stepped, outputs}
 use Rattle.lg_memory.proofs.CaseLemmas.{loads_or_counts-any, registered-any, words_after-any}
 use Rattle.lg_memory.proofs.ShapeLemmas.{length-word_at, AreWords-shift_words, AreWords-stored_at}
 

@@ -1,11 +1,11 @@
 -- The forms of parts with a state, and the ranges of their numbers. Source: the library reference of
 -- Logisim-evolution, Memory Library; the ranges are this project's.
-use Rattle.std.specs.Prelude.{ℕ, ◌≡◌, ◌≢◌, ◌^◌, ◌<◌, ◌≤◌, ◌⊎◌, List, length, All}
+use Rattle.std.specs.Prelude.{ℕ, ◌≡◌, ◌^◌, ◌<◌, ◌≤◌, ◌⊎◌, length, All}
 use Rattle.lg_value.specs.Word.{IsWidth}
 use Rattle.lg_memory.specs.declared.form.Trigger.{Trigger}
 use Rattle.lg_memory.specs.declared.form.Trigger.TheVariants.{Rising, Falling}
 use Rattle.lg_memory.specs.declared.form.FlipKind.{FlipKind}
-use Rattle.lg_memory.specs.declared.form.FlipKind.TheVariants.{D, T, Jk, Sr}
+use Rattle.lg_memory.specs.declared.form.FlipKind.TheVariants.{T, Jk}
 use Rattle.lg_memory.specs.declared.form.StateForm.{StateForm}
 use Rattle.lg_memory.specs.declared.form.StateForm.TheVariants.{Flip, Register, Counter, Shift, Rom, Ram}
 

@@ -1,6 +1,6 @@
 -- The words at a part's inputs. Source: the library reference of Logisim-evolution, Memory Library, over
 -- four-valued bits; the inputs stand in the order of the kind's ports.
-use Rattle.std.specs.Prelude.{ℕ, Bool, List, [], Option, None, Some, slice_index_or, if◌then◌else◌}
+use Rattle.std.specs.Prelude.{ℕ, List, [], Option, None, Some, slice_index_or, if◌then◌else◌}
 use Rattle.std.specs.List.{list_all}
 use Rattle.lg_value.specs.declared.bit.Bit.{Bit}
 use Rattle.lg_value.specs.declared.bit.Bit.TheVariants.{Unknown}

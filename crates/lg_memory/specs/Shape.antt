@@ -1,6 +1,5 @@
 -- The ports and the words of each form.
-use Rattle.std.specs.Prelude.{ℕ, Bool, true, false, ◌≡◌, ◌^◌, List, [], ◌∷◌, length, map, replicate, All}
-use Rattle.lg_memory.specs.declared.form.FlipKind.{FlipKind}
+use Rattle.std.specs.Prelude.{ℕ, true, false, ◌≡◌, ◌^◌, List, [], ◌∷◌, length, map, replicate, All}
 use Rattle.lg_memory.specs.declared.form.FlipKind.TheVariants.{D, T, Jk, Sr}
 use Rattle.lg_memory.specs.declared.form.StateForm.{StateForm}
 use Rattle.lg_memory.specs.declared.form.StateForm.TheVariants.{Flip, Register, Counter, Shift, Rom, Ram}

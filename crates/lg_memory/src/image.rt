@@ -14,8 +14,8 @@ use std::alloc::{AllocError, Global};
 /// The words of a memory image, each of `width` bits, without the missing ones. The width is 1 to 64.
 ///
 /// The image is the line `v2.0 raw` and then words in hexadecimal digits, with white space between them; `N*V` is the
-/// word `V` N times, and `#` begins a comment that ends with its line. There may be at most `words` words. What is read
-/// takes no more memory than they do.
+/// word `V` N times, and `#` begins a comment that ends with its line. There may be at most `words` words; those past
+/// that are read and not kept.
 pub fn read_image(
     alloc: Global,
     bytes: &[u8],

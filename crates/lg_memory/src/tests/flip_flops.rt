@@ -5,6 +5,7 @@ ghost use Rattle.lg_memory.specs.declared.state.State.TheVariants.{One as Held};
 ghost use Rattle.lg_memory.specs.Form.{IsForm, IsEdge};
 ghost use Rattle.lg_memory.specs.Shape.{HasShape, FitsInputs, output_widths};
 
+use crate::Trigger::{Falling, High, Low, Rising};
 use crate::{FlipKind, State, StateForm, Trigger, out, step};
 use lg_value::Bit::{Error, One, Unknown, Zero};
 use lg_value::{Bit, Word};
@@ -45,147 +46,33 @@ fn after_d(trigger: Trigger, q: Bit, before: Bit, inputs: [Bit; 4]) -> (Bit, Bit
 #[test]
 fn d_stores_at_its_trigger_and_clears_before_it_presets(rt: HostRuntime) {
     let table = [
+        (Rising, Zero, Zero, [One, One, Zero, Zero], (One, Zero)),
+        (Rising, Zero, One, [One, One, Zero, Zero], (Zero, One)),
+        (Rising, Zero, Unknown, [One, One, Zero, Zero], (Zero, One)),
+        (Rising, Zero, Zero, [One, Unknown, Zero, Zero], (Zero, One)),
         (
-            Trigger::Rising,
-            Zero,
-            Zero,
-            [One, One, Zero, Zero],
-            (One, Zero),
-        ),
-        (
-            Trigger::Rising,
-            Zero,
-            One,
-            [One, One, Zero, Zero],
-            (Zero, One),
-        ),
-        (
-            Trigger::Rising,
-            Zero,
-            Unknown,
-            [One, One, Zero, Zero],
-            (Zero, One),
-        ),
-        (
-            Trigger::Rising,
-            Zero,
-            Zero,
-            [One, Unknown, Zero, Zero],
-            (Zero, One),
-        ),
-        (
-            Trigger::Rising,
+            Rising,
             Zero,
             Zero,
             [Unknown, One, Zero, Zero],
             (Unknown, Error),
         ),
-        (
-            Trigger::Rising,
-            Zero,
-            Zero,
-            [Error, One, Zero, Zero],
-            (Error, Error),
-        ),
-        (
-            Trigger::Falling,
-            One,
-            One,
-            [Zero, Zero, Zero, Zero],
-            (Zero, One),
-        ),
-        (
-            Trigger::Falling,
-            One,
-            Zero,
-            [Zero, One, Zero, Zero],
-            (One, Zero),
-        ),
-        (
-            Trigger::Falling,
-            One,
-            Unknown,
-            [Zero, Zero, Zero, Zero],
-            (One, Zero),
-        ),
-        (
-            Trigger::High,
-            Zero,
-            One,
-            [One, One, Zero, Zero],
-            (One, Zero),
-        ),
-        (
-            Trigger::High,
-            Zero,
-            One,
-            [One, Zero, Zero, Zero],
-            (Zero, One),
-        ),
-        (
-            Trigger::High,
-            Zero,
-            Zero,
-            [One, Unknown, Zero, Zero],
-            (Zero, One),
-        ),
-        (
-            Trigger::Low,
-            Zero,
-            Zero,
-            [One, Zero, Zero, Zero],
-            (One, Zero),
-        ),
-        (
-            Trigger::Low,
-            Zero,
-            Zero,
-            [One, One, Zero, Zero],
-            (Zero, One),
-        ),
-        (
-            Trigger::Rising,
-            Zero,
-            One,
-            [Zero, One, One, Zero],
-            (One, Zero),
-        ),
-        (
-            Trigger::Rising,
-            One,
-            One,
-            [One, One, Zero, One],
-            (Zero, One),
-        ),
-        (Trigger::Rising, One, One, [One, One, One, One], (Zero, One)),
-        (
-            Trigger::Rising,
-            Zero,
-            Zero,
-            [One, One, Zero, One],
-            (Zero, One),
-        ),
-        (
-            Trigger::Rising,
-            Zero,
-            Zero,
-            [Zero, One, One, Zero],
-            (One, Zero),
-        ),
-        (
-            Trigger::Rising,
-            One,
-            One,
-            [One, One, Zero, Unknown],
-            (One, Zero),
-        ),
-        (
-            Trigger::Rising,
-            Zero,
-            One,
-            [One, One, Error, Zero],
-            (Zero, One),
-        ),
+        (Rising, Zero, Zero, [Error, One, Zero, Zero], (Error, Error)),
+        (Falling, One, One, [Zero, Zero, Zero, Zero], (Zero, One)),
+        (Falling, One, Zero, [Zero, One, Zero, Zero], (One, Zero)),
+        (Falling, One, Unknown, [Zero, Zero, Zero, Zero], (One, Zero)),
+        (High, Zero, One, [One, One, Zero, Zero], (One, Zero)),
+        (High, Zero, One, [One, Zero, Zero, Zero], (Zero, One)),
+        (High, Zero, Zero, [One, Unknown, Zero, Zero], (Zero, One)),
+        (Low, Zero, Zero, [One, Zero, Zero, Zero], (One, Zero)),
+        (Low, Zero, Zero, [One, One, Zero, Zero], (Zero, One)),
+        (Rising, Zero, One, [Zero, One, One, Zero], (One, Zero)),
+        (Rising, One, One, [One, One, Zero, One], (Zero, One)),
+        (Rising, One, One, [One, One, One, One], (Zero, One)),
+        (Rising, Zero, Zero, [One, One, Zero, One], (Zero, One)),
+        (Rising, Zero, Zero, [Zero, One, One, Zero], (One, Zero)),
+        (Rising, One, One, [One, One, Zero, Unknown], (One, Zero)),
+        (Rising, Zero, One, [One, One, Error, Zero], (Zero, One)),
     ];
     for (trigger, q, before, inputs, want) in table {
         assert_eq!(rt;
@@ -199,11 +86,7 @@ fn d_stores_at_its_trigger_and_clears_before_it_presets(rt: HostRuntime) {
 fn edge(falling: bool) -> Trigger
     ensures { IsEdge result }
 {
-    if falling {
-        Trigger::Falling
-    } else {
-        Trigger::Rising
-    }
+    if falling { Falling } else { Rising }
 }
 
 // What a T flip-flop holds once it is triggered.
@@ -291,118 +174,27 @@ fn after_sr(
 #[test]
 fn sr_holds_where_both_are_one(rt: HostRuntime) {
     let table = [
+        (Rising, Zero, (One, One), (Zero, One), Zero, (Zero, One)),
+        (Rising, One, (One, One), (Zero, One), Zero, (One, Zero)),
+        (Rising, One, (Zero, Zero), (Zero, One), Zero, (One, Zero)),
+        (Rising, One, (Zero, One), (Zero, One), Zero, (Zero, One)),
+        (Rising, Zero, (One, Zero), (Zero, One), Zero, (One, Zero)),
+        (Falling, Zero, (One, Zero), (One, Zero), Zero, (One, Zero)),
+        (Falling, Zero, (One, Zero), (Zero, One), Zero, (Zero, One)),
+        (High, Zero, (One, Zero), (One, One), Zero, (One, Zero)),
+        (High, Zero, (One, Zero), (One, Zero), Zero, (Zero, One)),
+        (Low, Zero, (One, Zero), (Unknown, Zero), Zero, (One, Zero)),
+        (Low, Zero, (One, Zero), (One, One), Zero, (Zero, One)),
         (
-            Trigger::Rising,
-            Zero,
-            (One, One),
-            (Zero, One),
-            Zero,
-            (Zero, One),
-        ),
-        (
-            Trigger::Rising,
-            One,
-            (One, One),
-            (Zero, One),
-            Zero,
-            (One, Zero),
-        ),
-        (
-            Trigger::Rising,
-            One,
-            (Zero, Zero),
-            (Zero, One),
-            Zero,
-            (One, Zero),
-        ),
-        (
-            Trigger::Rising,
-            One,
-            (Zero, One),
-            (Zero, One),
-            Zero,
-            (Zero, One),
-        ),
-        (
-            Trigger::Rising,
-            Zero,
-            (One, Zero),
-            (Zero, One),
-            Zero,
-            (One, Zero),
-        ),
-        (
-            Trigger::Falling,
-            Zero,
-            (One, Zero),
-            (One, Zero),
-            Zero,
-            (One, Zero),
-        ),
-        (
-            Trigger::Falling,
-            Zero,
-            (One, Zero),
-            (Zero, One),
-            Zero,
-            (Zero, One),
-        ),
-        (
-            Trigger::High,
-            Zero,
-            (One, Zero),
-            (One, One),
-            Zero,
-            (One, Zero),
-        ),
-        (
-            Trigger::High,
-            Zero,
-            (One, Zero),
-            (One, Zero),
-            Zero,
-            (Zero, One),
-        ),
-        (
-            Trigger::Low,
-            Zero,
-            (One, Zero),
-            (Unknown, Zero),
-            Zero,
-            (One, Zero),
-        ),
-        (
-            Trigger::Low,
-            Zero,
-            (One, Zero),
-            (One, One),
-            Zero,
-            (Zero, One),
-        ),
-        (
-            Trigger::High,
+            High,
             Zero,
             (Unknown, Zero),
             (One, One),
             Zero,
             (Error, Error),
         ),
-        (
-            Trigger::High,
-            One,
-            (One, Error),
-            (One, One),
-            Zero,
-            (Error, Error),
-        ),
-        (
-            Trigger::High,
-            One,
-            (One, Zero),
-            (One, One),
-            One,
-            (Zero, One),
-        ),
+        (High, One, (One, Error), (One, One), Zero, (Error, Error)),
+        (High, One, (One, Zero), (One, One), One, (Zero, One)),
     ];
     for (trigger, q, data, clock, clear, want) in table {
         assert_eq!(rt;

@@ -1,7 +1,7 @@
 use Rattle.std.proofs.Common.{◌≡◌, ◌≢◌, [], ◌∷◌, rules}
 use Rattle.lg_value.specs.declared.bit.Bit.TheVariants.{Zero, One}
 use Rattle.lg_memory.specs.Inputs.{word_at, bit_at, defined_number}
-use Rattle.lg_memory.specs.Counter.{counted, counter_word}
+use Rattle.lg_memory.specs.Counter.{counted}
 use Rattle.lg_memory.proofs.CaseLemmas.{loads_or_counts-counts, word_at_first}
 use Rattle.lg_memory.proofs.counter.counter_word.Goals as goal
 

@@ -1,4 +1,3 @@
-use Rattle.std.proofs.Common.{◌≡◌, [], ◌∷◌, map, sym, rules}
 use Rattle.lg_value.specs.Bit.{not_bit}
 use Rattle.lg_memory.proofs.CaseLemmas.{map-one_bit}
 use Rattle.lg_memory.proofs.flip_flop.inverted.Goals as goal

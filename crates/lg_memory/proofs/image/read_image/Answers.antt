@@ -1,6 +1,6 @@
-use Rattle.std.proofs.Common.{◌≡◌, ◌<◌, ◌⊎◌, ℕ, List, length, ◌+◌}
-use Rattle.std.specs.Prelude.{MatchResult, IsErrOf}
-use Rattle.lg_memory.specs.declared.fault.ImageFault.TheVariants.{NotImage, ImageTooLong}
+use Rattle.std.proofs.Common.{◌≡◌, ◌<◌, ◌⊎◌, length, ◌+◌}
+use Rattle.std.specs.Prelude.{MatchResult}
+use Rattle.lg_memory.specs.declared.fault.ImageFault.TheVariants.{ImageTooLong}
 use Rattle.lg_memory.specs.declared.fault.ImageFault.TheVariants.{Memory as NoMemory}
 use Rattle.lg_memory.proofs.ImageLemmas.{image_only}
 use Rattle.lg_memory.proofs.image.read_image.Goals as goal

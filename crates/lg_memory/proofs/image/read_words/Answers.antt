@@ -1,5 +1,4 @@
-use Rattle.std.proofs.Common.{◌≡◌, ◌+◌, ◌<◌, ◌≤◌, ◌⊎◌, ℕ, List, [], length, true, false, inl, inr, refl, rules, arith}
-use Rattle.lg_memory.specs.Image.{HasWords}
+use Rattle.std.proofs.Common.{◌≡◌, ◌+◌, ◌≤◌, [], length, inr, refl, rules}
 use Rattle.lg_memory.proofs.ImageLemmas.{reading_begins, reading_more, reading_shorter, reading_bad, reading_kept, reading_over}
 use Rattle.lg_memory.proofs.image.read_words.Goals as goal
 

@@ -1,5 +1,5 @@
-use Rattle.std.proofs.Common.{◌≡◌, false, ap, ◌∙◌}
-use Rattle.lg_memory.specs.Controls.{clock_of, is_triggered}
+use Rattle.std.proofs.Common.{ap, ◌∙◌}
+use Rattle.lg_memory.specs.Controls.{is_triggered}
 use Rattle.lg_memory.specs.Inputs.{bit_at}
 use Rattle.lg_memory.proofs.RepeatLemmas.{stepped-untriggered, stepped-unclocked, no_rise, no_fall}
 use Rattle.lg_memory.proofs.law.a_step_without_its_edge_changes_nothing.Goals as goal

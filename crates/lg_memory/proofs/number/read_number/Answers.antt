@@ -1,6 +1,6 @@
-use Rattle.std.proofs.Common.{◌≡◌, ◌+◌, ◌*◌, ◌<◌, ◌≤◌, None, get_or, length, arith, rules, ◌∙◌, ap, sym}
-use Rattle.lg_memory.specs.Image.{digit_value, Spells}
-use Rattle.lg_memory.proofs.DigitLemmas.{past_most, number_in_more, digits_more, no_digit}
+use Rattle.std.proofs.Common.{◌≡◌, ◌+◌, ◌*◌, ◌<◌, None, get_or, length, arith, rules}
+use Rattle.lg_memory.specs.Image.{digit_value}
+use Rattle.lg_memory.proofs.DigitLemmas.{past_most, number_in_more, digits_more}
 use Rattle.lg_memory.proofs.number.read_number.Goals as goal
 
 pub returns-in_err-number : goal.returns-in_err-number

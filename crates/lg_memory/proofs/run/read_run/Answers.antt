@@ -1,4 +1,4 @@
-use Rattle.std.proofs.Common.{◌≡◌, ◌+◌, ◌<◌, ◌≤◌, ℕ, None, Some, drop, take, length, eqb, arith, rules, ◌∙◌, sym}
+use Rattle.std.proofs.Common.{◌≡◌, ◌+◌, ◌<◌, ◌≤◌, ℕ, None, Some, drop, take, eqb, arith, ◌∙◌, sym}
 use Rattle.std.specs.List.{position}
 use Rattle.lg_memory.specs.Image.{Spells}
 use Rattle.lg_memory.proofs.RunLemmas.{star_none, no_value, no_times, no_word, is_times, Spells-same, tail_slice}

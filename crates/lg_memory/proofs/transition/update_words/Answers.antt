@@ -1,5 +1,4 @@
-use Rattle.std.proofs.Common.{◌≡◌}
-use Rattle.lg_memory.specs.Shape.{AreWords, HasShape}
+use Rattle.lg_memory.specs.Shape.{AreWords}
 use Rattle.lg_memory.proofs.ShapeLemmas.{AreWords-shift_words}
 use Rattle.lg_memory.proofs.transition.update_words.Goals as goal
 
