@@ -4,7 +4,8 @@ use Rattle.std.specs.Prelude.{slice_get}
 use Rattle.lg_value.specs.declared.bit.Bit.{Bit}
 use Rattle.lg_value.specs.declared.bit.Bit.TheVariants.{Zero, One}
 use Rattle.lg_memory.specs.Inputs.{Word, word_at}
-use Rattle.lg_memory.specs.Counter.{registered, loads_or_counts}
+use Rattle.lg_memory.specs.Counter.{loads_or_counts}
+use Rattle.lg_memory.specs.Register.{registered}
 use Rattle.lg_memory.specs.declared.form.StateForm.{StateForm}
 use Rattle.lg_memory.specs.Controls.{event_of}
 use Rattle.lg_memory.specs.Step.{start_words, triggered_words, words_after}

@@ -11,7 +11,7 @@ use Rattle.lg_memory.specs.Inputs.{Word, word_at, bit_at}
 use Rattle.lg_memory.specs.Form.{IsEdge, IsForm}
 use Rattle.lg_memory.specs.Controls.{triggers, clock_of, clear_of, preset_of, is_one, is_triggered, event_of}
 use Rattle.lg_memory.specs.FlipFlop.{sr_stored}
-use Rattle.lg_memory.specs.Counter.{registered}
+use Rattle.lg_memory.specs.Register.{registered}
 use Rattle.lg_memory.specs.Step.{triggered_words, words_after, stepped}
 
 -- a clock that stays has no edge

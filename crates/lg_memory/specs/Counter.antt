@@ -1,5 +1,5 @@
--- What a triggered register and a triggered counter hold. Source: the library reference of Logisim-evolution, Memory
--- Library, Register and Counter, the attribute Action On Overflow.
+-- What a triggered counter holds. Source: the library reference of Logisim-evolution, Memory Library, Counter, the
+-- attribute Action On Overflow.
 use Rattle.std.specs.Prelude.{ℕ, ◌+◌, ◌-◌, ◌^◌, ◌==◌, if◌then◌else◌, List, Option, None, Some, replicate}
 use Rattle.lg_value.specs.declared.bit.Bit.{Bit}
 use Rattle.lg_value.specs.declared.bit.Bit.TheVariants.{Zero, One, Error}
@@ -7,11 +7,6 @@ use Rattle.lg_value.specs.Word.{word_of_number}
 use Rattle.lg_memory.specs.declared.form.Goal.{Goal}
 use Rattle.lg_memory.specs.declared.form.Goal.TheVariants.{Wrap, Stay, Continue, Load}
 use Rattle.lg_memory.specs.Inputs.{Word, word_at, bit_at, defined_number}
-
--- a register stores its data unless its enable is 0
-abbrev pub registered : Word → Word → Bit → Word
-registered held d Zero = held
-registered held d _ = d
 
 -- what the sum past a counter's greatest number becomes: 0, the greatest again, the next number of the
 -- width, or the data

@@ -1,4 +1,5 @@
--- The ports and the words of each form.
+-- The ports and the words of each form. Source: the library reference of Logisim-evolution, Memory Library; the order
+-- of the ports is this project's.
 use Rattle.std.specs.Prelude.{ℕ, true, false, ◌≡◌, ◌^◌, List, [], ◌∷◌, length, map, replicate, All}
 use Rattle.lg_memory.specs.declared.form.FlipKind.TheVariants.{D, T, Jk, Sr}
 use Rattle.lg_memory.specs.declared.form.StateForm.{StateForm}

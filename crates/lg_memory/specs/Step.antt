@@ -10,7 +10,8 @@ use Rattle.lg_memory.specs.declared.form.StateForm.TheVariants.{Flip, Register, 
 use Rattle.lg_memory.specs.Inputs.{Word, word_at, bit_at, defined_number}
 use Rattle.lg_memory.specs.Controls.{event}
 use Rattle.lg_memory.specs.FlipFlop.{flip_stored}
-use Rattle.lg_memory.specs.Counter.{registered, counter_word, carry}
+use Rattle.lg_memory.specs.Counter.{counter_word, carry}
+use Rattle.lg_memory.specs.Register.{registered}
 use Rattle.lg_memory.specs.ShiftRegister.{shift_words}
 use Rattle.lg_memory.specs.Storage.{ram_words, ram_read, rom_read}
 

@@ -1,7 +1,7 @@
 //! What a triggered register holds.
 
 ghost use Rattle.std.specs.Prelude.{◌≡◌};
-ghost use Rattle.lg_memory.specs.Counter.{registered};
+ghost use Rattle.lg_memory.specs.Register.{registered};
 
 use lg_value::{Bit, Word};
 

@@ -5,16 +5,11 @@ ghost use Rattle.lg_memory.specs.declared.state.State.TheVariants.{One as Held};
 ghost use Rattle.lg_memory.specs.Form.{IsForm, IsEdge};
 ghost use Rattle.lg_memory.specs.Shape.{HasShape, FitsInputs, output_widths};
 
+use super::one;
 use crate::Trigger::{Falling, High, Low, Rising};
 use crate::{FlipKind, State, StateForm, Trigger, out, step};
 use lg_value::Bit::{Error, One, Unknown, Zero};
 use lg_value::{Bit, Word};
-
-fn one(bit: Bit) -> Word
-    ensures { result ≡ bit ∷ [] }
-{
-    Word::fill(1, bit)
-}
 
 // The two outputs after a step.
 fn outputs_after(form: &StateForm, q: Bit, old: &[Word], new: &[Word]) -> (Bit, Bit)

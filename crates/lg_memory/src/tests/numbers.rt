@@ -3,15 +3,10 @@
 ghost use Rattle.std.specs.Prelude.{◌≡◌, ◌^◌, ◌<◌, [], ◌∷◌, length};
 ghost use Rattle.lg_value.specs.Word.{IsWidth};
 
+use super::one;
 use crate::{Goal, State, StateForm, Trigger, out, step};
 use lg_value::Bit::{Error, One, Unknown, Zero};
 use lg_value::{Bit, Word};
-
-fn one(bit: Bit) -> Word
-    ensures { result ≡ bit ∷ [] }
-{
-    Word::fill(1, bit)
-}
 
 // A step of a register of 4 bits that holds 9 and is given 6; the inputs are enable, clock and clear.
 fn register_after(trigger: Trigger, before: Bit, inputs: [Bit; 3]) -> Word {

@@ -4,16 +4,11 @@ ghost use Rattle.std.specs.Prelude.{◌≡◌, ◌<◌, [], ◌∷◌, length};
 ghost use Rattle.lg_memory.specs.Form.{IsForm};
 ghost use Rattle.lg_memory.specs.Shape.{HasShape, FitsInputs, output_widths};
 
+use super::one;
 use crate::{State, StateForm, Trigger, out, renew, start, step};
 use lg_value::Bit::{Error, One, Unknown, Zero};
 use lg_value::{Bit, Word};
 use sqlite_items::Items;
-
-fn one(bit: Bit) -> Word
-    ensures { result ≡ bit ∷ [] }
-{
-    Word::fill(1, bit)
-}
 
 fn byte(n: u64) -> Word
     ensures { length result ≡ 8 }
