@@ -1,0 +1,12 @@
+pub mod CaseLemmas
+pub mod ClearLemmas
+pub mod DefinedLemmas
+pub mod DigitLemmas
+pub mod ImageLemmas
+pub mod NumberLemmas
+pub mod RepeatLemmas
+pub mod RunLemmas
+pub mod ScanLemmas
+pub mod ShapeLemmas
+pub mod ShiftLemmas
+pub mod WidthLemmas

@@ -1,0 +1,12 @@
+pub mod Controls
+pub mod Counter
+pub mod FlipFlop
+pub mod Form
+pub mod Image
+pub mod Inputs
+pub mod Register
+pub mod Scan
+pub mod Shape
+pub mod ShiftRegister
+pub mod Step
+pub mod Storage
