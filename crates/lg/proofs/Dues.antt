@@ -11,11 +11,10 @@ use Rattle.lg_io.specs.declared.fault.FileFault.TheVariants as file_fault
 use Rattle.lg_circ.specs.declared.read.TheConstants.{GREATEST_LENGTH}
 use Rattle.lg.specs.declared.status.Status.{Status}
 use Rattle.lg.specs.declared.status.Status.TheVariants as status
-use Rattle.lg.specs.declared.stop.Refusal.{Refusal}
 use Rattle.lg.specs.declared.stop.Refusal.TheVariants.{Missing, TooLong, NotBuilt}
 use Rattle.lg.specs.declared.stop.Stop.{Stop}
 use Rattle.lg.specs.declared.stop.Stop.TheVariants as stop
-use Rattle.lg.specs.Due.{Held, Due, Writes, Stops, IsModuleDue, IsExportDue, IsCommandDue, IsDue, IsAgreedText}
+use Rattle.lg.specs.Due.{Held, Due, Writes, Stops, IsModuleDue, IsExportDue, IsCommandDue, IsDue}
 use Rattle.lg.specs.Exported.{Makes, Exports, HoldsModule}
 use Rattle.lg.specs.Lines.{status_of}
 use Rattle.lg.specs.Outcome.{Ends, Follows, WrotePrefix}

@@ -1,2 +1,4 @@
 pub mod Dues
+pub mod Making
 pub mod OneSheetLemmas
+pub mod OneDue

@@ -1,4 +1,4 @@
--- A sheet has one netlist, so what that netlist is not the circuit is not.
+-- A sheet has one netlist, so that netlist alone decides whether the circuit is built.
 use Rattle.std.proofs.Common.{◌≡◌, false, List, [], ◌∷◌, length, get_or, Some, sym, ap, subst, ◌∙◌, arith}
 use Rattle.std.proofs.lemmas.Option.{same_Some}
 use Rattle.std.specs.List.{zip}
@@ -12,7 +12,7 @@ use Rattle.lg_flatten.specs.Uses.{roles_of}
 use Rattle.lg_flatten.specs.Flat.{IsNetlistOf}
 use Rattle.lg.specs.OneSheet.{IsBuilt, IsNotBuilt}
 
-head_is : (a b : Sheet) → a ∷ [] ≡ b ∷ [] → a ≡ b
+pub head_is : (a b : Sheet) → a ∷ [] ≡ b ∷ [] → a ≡ b
 head_is a b e = cc
 
 -- a list of one item

@@ -2,6 +2,7 @@
 #![tactic(auto)]
 
 mod export;
+mod law;
 mod one_sheet;
 mod run;
 mod status;

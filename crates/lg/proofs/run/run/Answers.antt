@@ -1,5 +1,5 @@
 -- What was due decides the status, unless memory ran out or a count rose.
-use Rattle.std.proofs.Common.{ℕ, List, sym, subst}
+use Rattle.std.proofs.Common.{sym, subst}
 use Rattle.lg.specs.Outcome.{Ends}
 use Rattle.lg.specs.Words.{words_of}
 use Rattle.lg.proofs.Dues.{prefix_written, complete_written, complete_stopped}
