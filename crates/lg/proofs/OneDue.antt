@@ -74,8 +74,8 @@ text_or_not bytes within = by (says_or_not bytes)
     by (inr none) = inr (λ text t. none t.project t.says)
     by (inl (project, says)) =
         of_project bytes project says (by_sheets project project.sheets refl (λ sheet e.
-            let few = subst (λ (sheets : List Sheet). All (IsFew (length bytes)) sheets) e (project_few bytes project says) 0 sheet (omega arith) in
-            omega (arith, few, within)))
+        let few = subst (λ (sheets : List Sheet). All (IsFew (length bytes)) sheets) e (project_few bytes project says) 0 sheet (omega arith) in
+        omega (arith, few, within)))
 
 -- the text of the bytes' module is the only one
 one_text : (bytes text text' : List ℕ) → IsModuleText bytes text → IsModuleText bytes text' → text' ≡ text

@@ -49,7 +49,7 @@ pub fn run<F: Files, O: Sink, E: Sink>(
     // The status is the due one, unless memory ran out or a count rose.
     ensures complete { IfSome (F.seen files.old).held
         (λ held. (due : Due) → IsDue (words_of words.now) held due →
-            Follows due result (F.seen files.old) (F.seen files.new) (O.seen out.old) (O.seen out.new)) }
+        Follows due result (F.seen files.old) (F.seen files.new) (O.seen out.old) (O.seen out.new)) }
 
     // The status's line was said; for an input, that of the stop that is due.
     ensures said { SaidLine (words_of words.now) (F.seen files.old).held result (E.seen err.old) (E.seen err.new) }

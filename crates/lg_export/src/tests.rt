@@ -19,6 +19,9 @@ fn circuit_without_components(rt: HostRuntime) -> Result<(), Fail> {
     };
     let module = export(alloc, &netlist)?;
     let text = lg_verilog::print(alloc, &module)?;
-    assert_eq!(rt; text.as_slice(), b"module c_main(\n);\nendmodule\n".as_slice());
+    assert_eq!(rt;
+        text.as_slice(),
+        b"module c_main(\n);\nendmodule\n".as_slice()
+    );
     Ok(())
 }

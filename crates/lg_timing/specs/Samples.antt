@@ -2,26 +2,21 @@
 use Rattle.std.specs.Prelude.{ℕ, Bool, ◌&&◌, List, [], ◌∷◌, slice_index_or, if◌then◌else◌}
 use Rattle.lg_value.specs.declared.bit.Bit.{Bit}
 use Rattle.lg_value.specs.declared.bit.Bit.TheVariants.{Zero, One, Unknown, Error}
-use Rattle.lg_value.specs.Bit.{same_bit}
+use Rattle.lg_value.specs.Bit.{same_bit, not_bit}
 use Rattle.lg_timing.specs.Circuit.{Word, Port, Part}
 
 -- the lowest bit of the word at a place, and unknown where there is none
 abbrev pub bit_in : List Word → ℕ → Bit
 bit_in words place = slice_index_or (slice_index_or words place []) 0 Unknown
 
-abbrev pub not_bit : Bit → Bit
-not_bit Zero = One
-not_bit One = Zero
-not_bit Unknown = Error
-not_bit Error = Error
-
+-- AND of two bits: a 0 gives 0, else an undefined bit gives an error, else 1
 abbrev pub and_bit : Bit → Bit → Bit
 and_bit Zero b = Zero
-and_bit One b = b
+and_bit One Zero = Zero
+and_bit One One = One
 and_bit Unknown Zero = Zero
-and_bit Unknown b = Error
 and_bit Error Zero = Zero
-and_bit Error b = Error
+and_bit _ _ = Error
 
 abbrev pub one_word : Bit → List Word
 one_word b = (b ∷ []) ∷ []

@@ -1,7 +1,8 @@
 //! Parts of the tests: gates, a constant and a flip-flop, with ports of one bit.
 
 ghost use Rattle.std.specs.Prelude.{◌≡◌, IfOk};
-ghost use Rattle.lg_timing.specs.Samples.{bit_in, one_word, not_bit, and_bit, rises};
+ghost use Rattle.lg_timing.specs.Samples.{bit_in, one_word, and_bit, rises};
+ghost use Rattle.lg_value.specs.Bit.{not_bit};
 
 use crate::{Behaviour, Port};
 use lg_value::{Bit, Word};
@@ -48,7 +49,7 @@ fn and_bit(a: Bit, b: Bit) -> Bit
 {
     match (a, b) {
         (Bit::Zero, _) | (_, Bit::Zero) => Bit::Zero,
-        (Bit::One, b) => b,
+        (Bit::One, Bit::One) => Bit::One,
         _ => Bit::Error,
     }
 }
