@@ -1,4 +1,4 @@
-//! The netlist of the circuits that are exported so far: one-gate circuits.
+//! The netlist of one-gate circuits, which are those that are exported.
 
 ghost use Rattle.std.specs.Prelude.{◌≡◌, ◌+◌, ◌*◌, ◌<◌, ◌^◌, length, All, IsTrue, IfOk, IsErrOf};
 ghost use Rattle.std.specs.List.{list_all};

@@ -1,4 +1,4 @@
-//! Texts whose projects, and texts that are none, as the form of the files says.
+//! Texts and the projects that they say, and texts that say none.
 
 use super::*;
 use std::alloc::{AllocError, Global};

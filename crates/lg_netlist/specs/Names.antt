@@ -5,6 +5,7 @@ use Rattle.std.specs.Fmt.{decimal}
 use Rattle.std.specs.Int.{is_in_range}
 use Rattle.std.specs.Str.{bytes_eq}
 use Rattle.lg_text.specs.NameByte.{is_name_byte}
+use Rattle.lg_netlist.specs.declared.names.TheConstants.{LONGEST_NAME}
 
 -- a byte of UTF-8 that goes on with a character and begins none
 abbrev pub is_continuation : ℕ → Bool
@@ -28,13 +29,9 @@ abbrev pub or_pin : List ℕ → List ℕ
 or_pin [] = codes "pin"
 or_pin (c ∷ cs) = c ∷ cs
 
--- how long a name may be before it is numbered
-abbrev pub longest_name : ℕ
-longest_name = 256
-
 -- the name that a label gives where no other pin has it
 abbrev pub name_of_label : List ℕ → List ℕ
-name_of_label label = or_pin (take longest_name (flat_map cleaned_byte (trimmed label)))
+name_of_label label = or_pin (take LONGEST_NAME (flat_map cleaned_byte (trimmed label)))
 
 -- the name is among those
 abbrev pub is_taken : List (List ℕ) → List ℕ → Bool

@@ -117,7 +117,7 @@ abbrev pub IsEnding : Circuit → List Stimulus → ℕ → ℕ → Ending → T
 IsEnding c stimuli start limit (Settled at) = SettlesWithin c stimuli start limit at
 IsEnding c stimuli start limit Oscillates = (after : ℕ) × OscillatesPast c stimuli start limit after
 
--- an instant of which a run has a later one in memory
+-- an instant before the last one that a run keeps
 abbrev pub IsEarly : Ending → Type 0
 IsEarly (Settled at) = at + 1 < 2 ^ 63
 IsEarly Oscillates = Unit {0}

@@ -49,7 +49,7 @@ fn is_busy<P: Behaviour>(
     Ok(differ(before.as_slice(), now.as_slice()))
 }
 
-// Goes on past the next busy instant, or so far as it could be.
+// Goes on past the next busy instant, or to where none can come any more.
 fn next_busy<P: Behaviour>(
     alloc: Global,
     circuit: &Circuit<P>,
