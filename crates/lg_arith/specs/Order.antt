@@ -5,7 +5,7 @@ use Rattle.lg_value.specs.Bit.{digit_of}
 use Rattle.lg_value.specs.Word.{number_of, same_word}
 use Rattle.lg_arith.specs.Operands.{bit_output, top_bit}
 
--- a word as a two's complement number: two to the width less where the top bit is 1
+-- a word as a two's complement number: its number, less two to the width where the top bit is 1
 unfoldable pub signed_number_of : List Bit → ℤ
 signed_number_of word = pos (number_of word) -ℤ pos (digit_of (top_bit word) * 2 ^ length word)
 

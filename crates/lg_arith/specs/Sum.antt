@@ -17,7 +17,7 @@ whole_sum a b carry = number_of a + number_of b + digit_of (counted_bit carry)
 unfoldable pub sum_of : List Bit → List Bit → Bit → List Bit
 sum_of a b carry = word_output (sum_operands a b carry) (length a) (whole_sum a b carry)
 
--- the carry: whether the whole sum passes the width
+-- the carry: whether the whole sum reaches two to the width
 unfoldable pub carry_of : List Bit → List Bit → Bit → Bit
 carry_of a b carry = bit_output (sum_operands a b carry) (nat_le (2 ^ length a) (whole_sum a b carry))
 
