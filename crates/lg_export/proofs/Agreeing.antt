@@ -22,7 +22,7 @@ use Rattle.lg_export.proofs.EquationValues.{value_of-Whole, value_of-equation, g
 use Rattle.lg_export.proofs.OneGateShape.{IsNetIn, single, IsSimple, IsPinOn, IsLoose, IsOneGateShape, IsOneGateShape-from}
 use Rattle.lg_export.proofs.Driving.{Entry, IsEntry, IsEntry-left, IsEntry-right, pins_drive, names_in, found, from_pin, split_net}
 use Rattle.lg_export.proofs.Ordered.{x_names, x_assigns, w_assign, o_assign, part_assigns-is}
-use Rattle.lg_export.proofs.Declared.{input_names-is, output_names-is, wires_narrow, module_is_ordered, IsIn-right}
+use Rattle.lg_export.proofs.Declared.{input_names-is, output_names-is, wires_narrow, module_is_ordered, module_is_combinational, IsIn-right}
 use Rattle.lg_export.proofs.Gates.{bit_of_digit, IsDefinedBit, bit_is_defined, number_of-bit, bit-number_of, number_of-small, bits_of, AreSmall, gate_bit, gate_bit-number, cell_word-bit}
 
 -- each equation holds
@@ -305,6 +305,7 @@ agrees_on n plain row defined =
       static = record { value = bit_on n v; are_values = values; gives = refl; only = λ other so. static_only n plain row (bit_on n v) other values so };
       defined = outputs_defined n v (driven n) (output_pins n) plain.outputs;
       solved = record {
+        combinational = module_is_combinational n plain;
         value = v;
         solves = solution;
         only = solved.2;

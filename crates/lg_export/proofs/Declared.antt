@@ -1,5 +1,5 @@
 -- All that the module declares has one bit, and is an input or stands on the left of an equation.
-use Rattle.std.proofs.Common.{◌≡◌, ℕ, ◌+◌, ◌<◌, ◌≤◌, not, List, [], ◌∷◌, ◌++◌, length, map, filter, refl, sym, ap, subst, ◌∙◌, arith, inl, inr, ◌⊎◌}
+use Rattle.std.proofs.Common.{◌≡◌, ℕ, ◌+◌, ◌<◌, ◌≤◌, not, IsTrue, List, [], ◌∷◌, ◌++◌, length, map, filter, refl, sym, ap, subst, ◌∙◌, arith, inl, inr, ◌⊎◌, None}
 use Rattle.std.specs.List.{AllByRecursion, flat_map, enumerate_from}
 use Rattle.std.proofs.lemmas.Bool.{cases_eq}
 use Rattle.std.proofs.lemmas.List.{map-append}
@@ -13,7 +13,7 @@ use Rattle.lg_verilog.specs.declared.module.Port.{Port}
 use Rattle.lg_verilog.specs.declared.module.Decl.{Decl}
 use Rattle.lg_verilog.specs.declared.module.Decl.TheVariants as decl
 use Rattle.lg_verilog.specs.declared.module.Assign.{Assign}
-use Rattle.lg_vmeaning.specs.Meaning.{Line, port_line, decl_line, declared, width_of, is_input, input_names, output_names}
+use Rattle.lg_vmeaning.specs.Meaning.{Line, port_line, decl_line, declared, width_of, is_input, input_names, output_names, is_wire, IsCombinational}
 use Rattle.lg_vmeaning.specs.InOrder.{IsIn, AreInOrder}
 use Rattle.lg_vmeaning.proofs.InOrderLemmas.{AllDiffer, IsGiven, IsOrdered, assigned}
 use Rattle.lg_export.specs.Layout.{numbered, input_name, output_name, input_wire, output_wire, drivers, part_decls, part_assigns, module_of, module_assigns}
@@ -25,10 +25,10 @@ use Rattle.lg_export.proofs.Ordered.{x_names, x_assigns, w_assign, o_assign, par
 
 -- the ports of pins
 abbrev pub in_port : PinUse → Port
-in_port p = record { direction = Input; width = 1; name = input_name p }
+in_port p = record { direction = Input; range = None; name = input_name p }
 
 abbrev pub out_port : PinUse → Port
-out_port p = record { direction = Output; width = 1; name = output_name p }
+out_port p = record { direction = Output; range = None; name = output_name p }
 
 no_inputs : (outs : List PinUse) → map (λ (p : Port). p.name) (filter is_input (map out_port outs)) ≡ []
 no_inputs [] = refl
@@ -70,7 +70,7 @@ names_of decls = map (λ (d : Decl). (decl_line d).0) decls
 two_lists : (a a' b b' : List (List ℕ)) → a ≡ a' → b ≡ b' → a ++ b ≡ a' ++ b'
 two_lists a a' b b' e f = cc
 
-names_of-wires : (names : List (List ℕ)) → names_of (map (λ (name : List ℕ). decl.Wire 1 name) names) ≡ names
+names_of-wires : (names : List (List ℕ)) → names_of (map (λ (name : List ℕ). decl.Wire None name) names) ≡ names
 names_of-wires [] = refl
 names_of-wires (name ∷ names) = ap (λ (rest : List (List ℕ)). name ∷ rest) (names_of-wires names)
 
@@ -83,8 +83,8 @@ part_given : (D : List (ℕ × List ℕ)) (k : ℕ) (on : List ℕ) (p : PartUse
 part_given D k on p s =
     let nets = s.first ∷ s.more in
     ap names_of (part_decls-is k on p s)
-    ∙ (map-append (λ (d : Decl). (decl_line d).0) (map (λ (name : List ℕ). decl.Wire 1 name) (x_names k 0 nets)) (decl.Wire 1 (output_wire k 0) ∷ [])
-    ∙ (two_lists (names_of (map (λ (name : List ℕ). decl.Wire 1 name) (x_names k 0 nets))) (assigned (x_assigns D k 0 nets)) (output_wire k 0 ∷ []) (output_wire k 0 ∷ []) (names_of-wires (x_names k 0 nets) ∙ sym (assigned-x D k 0 nets)) refl
+    ∙ (map-append (λ (d : Decl). (decl_line d).0) (map (λ (name : List ℕ). decl.Wire None name) (x_names k 0 nets)) (decl.Wire None (output_wire k 0) ∷ [])
+    ∙ (two_lists (names_of (map (λ (name : List ℕ). decl.Wire None name) (x_names k 0 nets))) (assigned (x_assigns D k 0 nets)) (output_wire k 0 ∷ []) (output_wire k 0 ∷ []) (names_of-wires (x_names k 0 nets) ∙ sym (assigned-x D k 0 nets)) refl
     ∙ sym (ap assigned (part_assigns-is D k on p s) ∙ map-append (λ (a : Assign). a.name) (x_assigns D k 0 nets) (w_assign k p.cell nets ∷ []))))
 
 parts_given : (D : List (ℕ × List ℕ)) (k : ℕ) (on : List ℕ) (parts : List PartUse) → AllByRecursion (IsSimple on) parts
@@ -123,29 +123,42 @@ given_outputs : (known : List (List ℕ)) (assigns : List Assign) (D : List (ℕ
 given_outputs known assigns D [] here = tt
 given_outputs known assigns D (p ∷ pins) here = ((inr (here (output_name p) (inl refl)), refl), given_outputs known assigns D pins (λ name h. here name (inr h)))
 
-given_decls : (known : List (List ℕ)) (assigns : List Assign) (decls : List Decl) → AllByRecursion (λ (d : Decl). (decl_line d).1 ≡ 1) decls
+-- wires of one bit
+abbrev AreBitWires : List Decl → Type 0
+AreBitWires decls = AllByRecursion (λ (d : Decl). ((decl_line d).1 ≡ 1) × IsTrue (is_wire d)) decls
+
+given_decls : (known : List (List ℕ)) (assigns : List Assign) (decls : List Decl) → AreBitWires decls
     → ((name : List ℕ) → IsIn (names_of decls) name → IsIn (assigned assigns) name) → AreGiven known assigns (map decl_line decls)
-given_decls known assigns [] narrow here = tt
-given_decls known assigns (d ∷ decls) narrow here = ((inr (here (decl_line d).0 (inl refl)), narrow.0), given_decls known assigns decls narrow.1 (λ name h. here name (inr h)))
+given_decls known assigns [] wires here = tt
+given_decls known assigns (d ∷ decls) wires here = ((inr (here (decl_line d).0 (inl refl)), wires.0.0), given_decls known assigns decls wires.1 (λ name h. here name (inr h)))
 
-abbrev AreNarrowDecls : List Decl → Type 0
-AreNarrowDecls decls = AllByRecursion (λ (d : Decl). (decl_line d).1 ≡ 1) decls
+wires-append : (xs ys : List Decl) → AreBitWires xs → AreBitWires ys → AreBitWires (xs ++ ys)
+wires-append [] ys hx hy = hy
+wires-append (x ∷ xs) ys hx hy = (hx.0, wires-append xs ys hx.1 hy)
 
-narrow-append : (xs ys : List Decl) → AreNarrowDecls xs → AreNarrowDecls ys → AreNarrowDecls (xs ++ ys)
-narrow-append [] ys hx hy = hy
-narrow-append (x ∷ xs) ys hx hy = (hx.0, narrow-append xs ys hx.1 hy)
+wires-named : (names : List (List ℕ)) → AreBitWires (map (λ (name : List ℕ). decl.Wire None name) names)
+wires-named [] = tt
+wires-named (name ∷ names) = ((refl, refl), wires-named names)
 
-narrow-wires : (names : List (List ℕ)) → AreNarrowDecls (map (λ (name : List ℕ). decl.Wire 1 name) names)
-narrow-wires [] = tt
-narrow-wires (name ∷ names) = (refl, narrow-wires names)
-
-narrow-parts : (k : ℕ) (on : List ℕ) (parts : List PartUse) → AllByRecursion (IsSimple on) parts → AreNarrowDecls (flat_map part_decls (enumerate_from k parts))
-narrow-parts k on [] simple = tt
-narrow-parts k on (p ∷ parts) simple =
+wires-parts : (k : ℕ) (on : List ℕ) (parts : List PartUse) → AllByRecursion (IsSimple on) parts → AreBitWires (flat_map part_decls (enumerate_from k parts))
+wires-parts k on [] simple = tt
+wires-parts k on (p ∷ parts) simple =
     let s = simple.0 in
-    narrow-append (part_decls (k, p)) (flat_map part_decls (enumerate_from (k + 1) parts))
-    (subst AreNarrowDecls (sym (part_decls-is k on p s)) (narrow-append (map (λ (name : List ℕ). decl.Wire 1 name) (x_names k 0 (s.first ∷ s.more))) (decl.Wire 1 (output_wire k 0) ∷ []) (narrow-wires (x_names k 0 (s.first ∷ s.more))) (refl, tt)))
-    (narrow-parts (k + 1) on parts simple.1)
+    wires-append (part_decls (k, p)) (flat_map part_decls (enumerate_from (k + 1) parts))
+    (subst AreBitWires (sym (part_decls-is k on p s)) (wires-append (map (λ (name : List ℕ). decl.Wire None name) (x_names k 0 (s.first ∷ s.more))) (decl.Wire None (output_wire k 0) ∷ []) (wires-named (x_names k 0 (s.first ∷ s.more))) ((refl, refl), tt)))
+    (wires-parts (k + 1) on parts simple.1)
+
+only_wires : (decls : List Decl) → AreBitWires decls → AllByRecursion (λ (d : Decl). IsTrue (is_wire d)) decls
+only_wires [] h = tt
+only_wires (d ∷ decls) h = (h.0.1, only_wires decls h.1)
+
+-- the module of a plain netlist has no state
+pub module_is_combinational : (n : Netlist) → IsOneGateShape n → IsCombinational (module_of n)
+module_is_combinational n plain = record {
+  wires = only_wires (flat_map part_decls (numbered n.parts)) (wires-parts 0 (driven_by_pins n.pins) n.parts plain.parts);
+  no_init = refl;
+  no_edge = refl;
+}
 
 -- all that is declared is given, with one bit
 all_given : (n : Netlist) → IsOneGateShape n → AreGiven (names_in (input_pins n)) (module_assigns n) (declared (module_of n))
@@ -162,7 +175,7 @@ all_given n plain =
     (subst (AreGiven known assigns) (sym ports)
     (AreGiven-append known assigns (map port_line (map in_port (input_pins n))) (map port_line (map out_port (output_pins n))) (given_inputs known assigns (input_pins n) (λ name h. h))
     (given_outputs known assigns (drivers n) (output_pins n) (λ name h. subst (λ (all : List (List ℕ)). IsIn all name) (sym names) (IsIn-right (assigned parts) (assigned outs) name h)))))
-    (given_decls known assigns decls (narrow-parts 0 (driven_by_pins n.pins) n.parts plain.parts)
+    (given_decls known assigns decls (wires-parts 0 (driven_by_pins n.pins) n.parts plain.parts)
     (λ name h. subst (λ (all : List (List ℕ)). IsIn all name) (sym names)
     (IsIn-left (assigned parts) (assigned outs) name (subst (λ (all : List (List ℕ)). IsIn all name) (parts_given (drivers n) 0 (driven_by_pins n.pins) n.parts plain.parts) h))))
 

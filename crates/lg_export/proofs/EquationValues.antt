@@ -1,19 +1,19 @@
 -- The values of the equations that are written: a name, an inverted name, and names joined by an operator.
 use Rattle.std.proofs.Common.{◌≡◌, ℕ, zero, suc, ◌-◌, ◌^◌, ◌<◌, List, [], ◌∷◌, map, fold, option_map, unwrap_or, Bool, true, false, refl, sym, ap, subst, ◌∙◌, arith, inl, inr, ◌⊎◌, lit<}
-use Rattle.std.specs.Prelude.{find}
+use Rattle.std.specs.Prelude.{find, bit_and, bit_or}
 use Rattle.std.specs.List.{AllByRecursion}
 use Rattle.std.specs.Str.{bytes_eq}
 use Rattle.std.proofs.lemmas.Bool.{false≢true}
 use Rattle.std.proofs.lemmas.Slice.Eq.{bytes_eq-Decides}
 use Rattle.lg_netlist.specs.declared.netlist.Cell.{Cell}
 use Rattle.lg_netlist.specs.declared.netlist.Cell.TheVariants as cell
-use Rattle.lg_verilog.specs.declared.module.Expr.{Expr, fold-Expr}
-use Rattle.lg_verilog.specs.declared.module.Expr.TheFolds.{fold-roll-Expr}
-use Rattle.lg_verilog.specs.declared.module.Expr.TheVariants.{rolls-Whole, rolls-Not, rolls-Binary}
-use Rattle.lg_verilog.specs.declared.module.Expr.TheOpen.{Expr-F}
-use Rattle.lg_verilog.specs.declared.module.Expr.TheVariants as expr
-use Rattle.lg_verilog.specs.declared.module.Operator.{Operator}
-use Rattle.lg_verilog.specs.declared.module.Operator.TheVariants as operator
+use Rattle.lg_verilog.specs.declared.expr.Expr.{Expr, fold-Expr}
+use Rattle.lg_verilog.specs.declared.expr.Expr.TheFolds.{fold-roll-Expr}
+use Rattle.lg_verilog.specs.declared.expr.Expr.TheVariants.{rolls-Whole, rolls-Not, rolls-Binary}
+use Rattle.lg_verilog.specs.declared.expr.Expr.TheOpen.{Expr-F}
+use Rattle.lg_verilog.specs.declared.expr.Expr.TheVariants as expr
+use Rattle.lg_verilog.specs.declared.expr.Operator.{Operator}
+use Rattle.lg_verilog.specs.declared.expr.Operator.TheVariants as operator
 use Rattle.lg_verilog.specs.declared.module.Module.{Module}
 use Rattle.lg_vmeaning.specs.Meaning.{Valuation, Line, value_of, width_of, form_value, operator_value}
 use Rattle.lg_vmeaning.specs.InOrder.{IsIn, AgreeAt, ReadsOnly, IsOneBit}
@@ -38,31 +38,40 @@ value_of-Not m value name =
     let step = form_value (width_of m) value in
     ap (λ (r : ℕ × ℕ). r.1) (fold-Not step (expr.Whole name)) ∙ ap (λ (r : ℕ × ℕ). 2 ^ r.0 - 1 - r.1) (fold-Whole step name)
 
-value_of-Binary : (m : Module) (value : Valuation) (a : Expr) (op : Operator) (b : Expr) → value_of m value (expr.Binary a op b) ≡ operator_value op (value_of m value a) (value_of m value b)
-value_of-Binary m value a op b = ap (λ (r : ℕ × ℕ). r.1) (fold-Binary (form_value (width_of m) value) a op b)
+-- an operator that works bit by bit gives this number, whatever the width
+abbrev IsBitwise : Operator → (ℕ → ℕ → ℕ) → Type 0
+IsBitwise op step = (width a b : ℕ) → operator_value op width a b ≡ step a b
+
+value_of-Binary : (m : Module) (value : Valuation) (a : Expr) (op : Operator) (step : ℕ → ℕ → ℕ) (b : Expr) → IsBitwise op step
+    → value_of m value (expr.Binary a op b) ≡ step (value_of m value a) (value_of m value b)
+value_of-Binary m value a op step b bitwise =
+    let width = (fold-Expr (ℕ × ℕ) (form_value (width_of m) value) a).0 in
+    ap (λ (r : ℕ × ℕ). r.1) (fold-Binary (form_value (width_of m) value) a op b) ∙ bitwise width (value_of m value a) (value_of m value b)
 
 -- the numbers of some names, joined one after the other to a first number
-abbrev pub folded : Operator → Valuation → ℕ → List (List ℕ) → ℕ
-folded op value k names = fold (λ k name. operator_value op k (value name)) k names
+abbrev pub folded : (ℕ → ℕ → ℕ) → Valuation → ℕ → List (List ℕ) → ℕ
+folded step value k names = fold (λ k name. step k (value name)) k names
 
 abbrev wholes : List (List ℕ) → List Expr
 wholes names = map expr.Whole names
 
-value_of-fold : (m : Module) (value : Valuation) (op : Operator) (e : Expr) (names : List (List ℕ))
-    → value_of m value (fold (λ a b. expr.Binary a op b) e (wholes names)) ≡ folded op value (value_of m value e) names
-value_of-fold m value op e [] = refl
-value_of-fold m value op e (name ∷ names) =
-    value_of-fold m value op (expr.Binary e op (expr.Whole name)) names
-    ∙ ap (λ (k : ℕ). folded op value k names) (value_of-Binary m value e op (expr.Whole name) ∙ ap (operator_value op (value_of m value e)) (value_of-Whole m value name))
+value_of-fold : (m : Module) (value : Valuation) (op : Operator) (step : ℕ → ℕ → ℕ) (e : Expr) (names : List (List ℕ)) → IsBitwise op step
+    → value_of m value (fold (λ a b. expr.Binary a op b) e (wholes names)) ≡ folded step value (value_of m value e) names
+value_of-fold m value op step e [] bitwise = refl
+value_of-fold m value op step e (name ∷ names) bitwise =
+    value_of-fold m value op step (expr.Binary e op (expr.Whole name)) names bitwise
+    ∙ ap (λ (k : ℕ). folded step value k names) (value_of-Binary m value e op step (expr.Whole name) bitwise ∙ ap (step (value_of m value e)) (value_of-Whole m value name))
 
-value_of-joined : (m : Module) (value : Valuation) (op : Operator) (name : List ℕ) (names : List (List ℕ)) → value_of m value (joined op (wholes (name ∷ names))) ≡ folded op value (value name) names
-value_of-joined m value op name names = value_of-fold m value op (expr.Whole name) names ∙ ap (λ (k : ℕ). folded op value k names) (value_of-Whole m value name)
+value_of-joined : (m : Module) (value : Valuation) (op : Operator) (step : ℕ → ℕ → ℕ) (name : List ℕ) (names : List (List ℕ)) → IsBitwise op step
+    → value_of m value (joined op (wholes (name ∷ names))) ≡ folded step value (value name) names
+value_of-joined m value op step name names bitwise =
+    value_of-fold m value op step (expr.Whole name) names bitwise ∙ ap (λ (k : ℕ). folded step value k names) (value_of-Whole m value name)
 
 -- what a gate's equation says, over the numbers of its inputs
 abbrev pub gate_number : Cell → Valuation → List ℕ → List (List ℕ) → ℕ
 gate_number cell.Not value name names = 1 - value name
-gate_number cell.And value name names = folded operator.And value (value name) names
-gate_number cell.Or value name names = folded operator.Or value (value name) names
+gate_number cell.And value name names = folded bit_and value (value name) names
+gate_number cell.Or value name names = folded bit_or value (value name) names
 
 -- names that are declared with one bit
 abbrev pub AreNarrow : Module → List (List ℕ) → Type 0
@@ -70,24 +79,24 @@ AreNarrow m names = AllByRecursion (λ name. width_of m name ≡ 1) names
 
 pub value_of-equation : (m : Module) (value : Valuation) (c : Cell) (name : List ℕ) (names : List (List ℕ)) → width_of m name ≡ 1 → value_of m value (equation c (wholes (name ∷ names))) ≡ gate_number c value name names
 value_of-equation m value cell.Not name names narrow = value_of-Not m value name ∙ ap (λ (w : ℕ). 2 ^ w - 1 - value name) narrow
-value_of-equation m value cell.And name names narrow = value_of-joined m value operator.And name names
-value_of-equation m value cell.Or name names narrow = value_of-joined m value operator.Or name names
+value_of-equation m value cell.And name names narrow = value_of-joined m value operator.And bit_and name names (λ width a b. refl)
+value_of-equation m value cell.Or name names narrow = value_of-joined m value operator.Or bit_or name names (λ width a b. refl)
 
 -- the names are all known
 abbrev pub AreKnown : List (List ℕ) → List (List ℕ) → Type 0
 AreKnown known names = AllByRecursion (IsIn known) names
 
-pub folded-agree : (op : Operator) (v w : Valuation) (known : List (List ℕ)) (k : ℕ) (names : List (List ℕ)) → AgreeAt known v w → AreKnown known names → folded op v k names ≡ folded op w k names
-folded-agree op v w known k [] agree here = refl
-folded-agree op v w known k (name ∷ names) agree here =
-    folded-agree op v w known (operator_value op k (v name)) names agree here.1 ∙ ap (λ (n : ℕ). folded op w (operator_value op k n) names) (agree name here.0)
+pub folded-agree : (step : ℕ → ℕ → ℕ) (v w : Valuation) (known : List (List ℕ)) (k : ℕ) (names : List (List ℕ)) → AgreeAt known v w → AreKnown known names → folded step v k names ≡ folded step w k names
+folded-agree step v w known k [] agree here = refl
+folded-agree step v w known k (name ∷ names) agree here =
+    folded-agree step v w known (step k (v name)) names agree here.1 ∙ ap (λ (n : ℕ). folded step w (step k n) names) (agree name here.0)
 
 gate_number-agree : (c : Cell) (v w : Valuation) (known : List (List ℕ)) (name : List ℕ) (names : List (List ℕ)) → AgreeAt known v w → AreKnown known (name ∷ names) → gate_number c v name names ≡ gate_number c w name names
 gate_number-agree cell.Not v w known name names agree here = ap (λ (n : ℕ). 1 - n) (agree name here.0)
 gate_number-agree cell.And v w known name names agree here =
-    folded-agree operator.And v w known (v name) names agree here.1 ∙ ap (λ (n : ℕ). folded operator.And w n names) (agree name here.0)
+    folded-agree bit_and v w known (v name) names agree here.1 ∙ ap (λ (n : ℕ). folded bit_and w n names) (agree name here.0)
 gate_number-agree cell.Or v w known name names agree here =
-    folded-agree operator.Or v w known (v name) names agree here.1 ∙ ap (λ (n : ℕ). folded operator.Or w n names) (agree name here.0)
+    folded-agree bit_or v w known (v name) names agree here.1 ∙ ap (λ (n : ℕ). folded bit_or w n names) (agree name here.0)
 
 -- 0 and 1
 pub IsBit-cases : (k : ℕ) → k < 2 → (k ≡ 0) ⊎ (k ≡ 1)
@@ -95,25 +104,29 @@ IsBit-cases zero h = inl refl
 IsBit-cases (suc zero) h = inr refl
 IsBit-cases (suc (suc k)) h = absurd (omega (arith, h))
 
-pub operator_small : (op : Operator) (a b : ℕ) → a < 2 → b < 2 → operator_value op a b < 2
-operator_small op a b ha hb = by op (IsBit-cases a ha) (IsBit-cases b hb)
-  where
-    at : (op : Operator) (c d : ℕ) → a ≡ c → b ≡ d → operator_value op c d < 2 → operator_value op a b < 2
-    at op c d e f low = subst (λ (k : ℕ). operator_value op k b < 2) (sym e) (subst (λ (k : ℕ). operator_value op c k < 2) (sym f) low)
+-- from bits it gives a bit
+abbrev pub StaysBit : (ℕ → ℕ → ℕ) → Type 0
+StaysBit step = (a b : ℕ) → a < 2 → b < 2 → step a b < 2
 
-    by : (op : Operator) → (a ≡ 0) ⊎ (a ≡ 1) → (b ≡ 0) ⊎ (b ≡ 1) → operator_value op a b < 2
-    by operator.And (inl e) (inl f) = at operator.And 0 0 e f (lit< tt)
-    by operator.And (inl e) (inr f) = at operator.And 0 1 e f (lit< tt)
-    by operator.And (inr e) (inl f) = at operator.And 1 0 e f (lit< tt)
-    by operator.And (inr e) (inr f) = at operator.And 1 1 e f (lit< tt)
-    by operator.Or (inl e) (inl f) = at operator.Or 0 0 e f (lit< tt)
-    by operator.Or (inl e) (inr f) = at operator.Or 0 1 e f (lit< tt)
-    by operator.Or (inr e) (inl f) = at operator.Or 1 0 e f (lit< tt)
-    by operator.Or (inr e) (inr f) = at operator.Or 1 1 e f (lit< tt)
+pub bit_and-stays : StaysBit bit_and
+bit_and-stays zero b ha hb = lit< tt
+bit_and-stays (suc zero) zero ha hb = lit< tt
+bit_and-stays (suc zero) (suc zero) ha hb = lit< tt
+bit_and-stays (suc zero) (suc (suc b)) ha hb = absurd (omega (arith, hb))
+bit_and-stays (suc (suc a)) b ha hb = absurd (omega (arith, ha))
 
-folded_small : (op : Operator) (v : Valuation) (k : ℕ) (names : List (List ℕ)) → k < 2 → AllByRecursion (λ name. v name < 2) names → folded op v k names < 2
-folded_small op v k [] low small = low
-folded_small op v k (name ∷ names) low small = folded_small op v (operator_value op k (v name)) names (operator_small op k (v name) low small.0) small.1
+pub bit_or-stays : StaysBit bit_or
+bit_or-stays zero zero ha hb = lit< tt
+bit_or-stays zero (suc zero) ha hb = lit< tt
+bit_or-stays zero (suc (suc b)) ha hb = absurd (omega (arith, hb))
+bit_or-stays (suc zero) zero ha hb = lit< tt
+bit_or-stays (suc zero) (suc zero) ha hb = lit< tt
+bit_or-stays (suc zero) (suc (suc b)) ha hb = absurd (omega (arith, hb))
+bit_or-stays (suc (suc a)) b ha hb = absurd (omega (arith, ha))
+
+folded_small : (step : ℕ → ℕ → ℕ) (v : Valuation) (k : ℕ) (names : List (List ℕ)) → StaysBit step → k < 2 → AllByRecursion (λ name. v name < 2) names → folded step v k names < 2
+folded_small step v k [] stays low small = low
+folded_small step v k (name ∷ names) stays low small = folded_small step v (step k (v name)) names stays (stays k (v name) low small.0) small.1
 
 all_small : (v : Valuation) (known names : List (List ℕ)) → ((name : List ℕ) → IsIn known name → v name < 2) → AreKnown known names → AllByRecursion (λ name. v name < 2) names
 all_small v known [] small here = tt
@@ -121,8 +134,8 @@ all_small v known (name ∷ names) small here = (small name here.0, all_small v 
 
 gate_number_small : (c : Cell) (v : Valuation) (name : List ℕ) (names : List (List ℕ)) → v name < 2 → AllByRecursion (λ other. v other < 2) names → gate_number c v name names < 2
 gate_number_small cell.Not v name names low small = omega arith
-gate_number_small cell.And v name names low small = folded_small operator.And v (v name) names low small
-gate_number_small cell.Or v name names low small = folded_small operator.Or v (v name) names low small
+gate_number_small cell.And v name names low small = folded_small bit_and v (v name) names bit_and-stays low small
+gate_number_small cell.Or v name names low small = folded_small bit_or v (v name) names bit_or-stays low small
 
 pub ReadsOnly-Whole : (m : Module) (known : List (List ℕ)) (name : List ℕ) → IsIn known name → ReadsOnly m known (expr.Whole name)
 ReadsOnly-Whole m known name here v w agree = value_of-Whole m v name ∙ (agree name here ∙ sym (value_of-Whole m w name))

@@ -1,5 +1,5 @@
 -- What a gate's equation says of numbers is what the gate answers to bits.
-use Rattle.std.proofs.Common.{◌≡◌, ℕ, zero, suc, false, ◌-◌, ◌<◌, List, [], ◌∷◌, map, refl, sym, ap, subst, ◌∙◌, arith, inl, inr, ◌⊎◌}
+use Rattle.std.proofs.Common.{◌≡◌, ℕ, zero, suc, false, ◌-◌, ◌<◌, List, [], ◌∷◌, map, refl, sym, ap, subst, ◌∙◌, arith, inl, inr, ◌⊎◌, bit_and, bit_or}
 use Rattle.std.specs.List.{AllByRecursion}
 use Rattle.lg_value.specs.declared.bit.Bit.{Bit}
 use Rattle.lg_value.specs.declared.bit.Bit.TheVariants.{Zero, One, Error}
@@ -15,10 +15,8 @@ use Rattle.lg_gates.specs.Gate as gates
 use Rattle.lg_gates.proofs.GateLemmas.{gate_word-loose, loose_word}
 use Rattle.lg_netlist.specs.Cell.{cell_word}
 use Rattle.lg_netlist.specs.Static.{word_at}
-use Rattle.lg_verilog.specs.declared.module.Operator.{Operator}
-use Rattle.lg_verilog.specs.declared.module.Operator.TheVariants as operator
-use Rattle.lg_vmeaning.specs.Meaning.{Valuation, operator_value}
-use Rattle.lg_export.proofs.EquationValues.{folded, gate_number, IsBit-cases, operator_small}
+use Rattle.lg_vmeaning.specs.Meaning.{Valuation}
+use Rattle.lg_export.proofs.EquationValues.{folded, gate_number, IsBit-cases, StaysBit, bit_and-stays, bit_or-stays}
 use Rattle.lg_export.proofs.OneGateShape.{single}
 
 -- the bit that a number of one bit stands for
@@ -55,33 +53,33 @@ number_of-small b h = subst (λ (k : ℕ). k < 2) (sym (number_of_one b)) (by h)
     by (inr e) = rw e (omega arith)
 
 and_step : (k j : ℕ) (rest : List Bit) → (k ≡ 0) ⊎ (k ≡ 1) → (j ≡ 0) ⊎ (j ≡ 1)
-    → and_bit (bit_of_digit k ∷ bit_of_digit j ∷ rest) ≡ and_bit (bit_of_digit (operator_value operator.And k j) ∷ rest)
-and_step k j rest (inl e) (inl f) = ap (λ (a : ℕ). and_bit (bit_of_digit a ∷ bit_of_digit j ∷ rest)) e ∙ sym (ap (λ (a : ℕ). and_bit (bit_of_digit (operator_value operator.And a j) ∷ rest)) e)
-and_step k j rest (inl e) (inr f) = ap (λ (a : ℕ). and_bit (bit_of_digit a ∷ bit_of_digit j ∷ rest)) e ∙ sym (ap (λ (a : ℕ). and_bit (bit_of_digit (operator_value operator.And a j) ∷ rest)) e)
+    → and_bit (bit_of_digit k ∷ bit_of_digit j ∷ rest) ≡ and_bit (bit_of_digit (bit_and k j) ∷ rest)
+and_step k j rest (inl e) (inl f) = ap (λ (a : ℕ). and_bit (bit_of_digit a ∷ bit_of_digit j ∷ rest)) e ∙ sym (ap (λ (a : ℕ). and_bit (bit_of_digit (bit_and a j) ∷ rest)) e)
+and_step k j rest (inl e) (inr f) = ap (λ (a : ℕ). and_bit (bit_of_digit a ∷ bit_of_digit j ∷ rest)) e ∙ sym (ap (λ (a : ℕ). and_bit (bit_of_digit (bit_and a j) ∷ rest)) e)
 and_step k j rest (inr e) (inl f) =
     (ap (λ (a : ℕ). and_bit (bit_of_digit a ∷ bit_of_digit j ∷ rest)) e ∙ ap (λ (b : ℕ). and_bit (bit_of_digit 1 ∷ bit_of_digit b ∷ rest)) f)
-    ∙ sym (ap (λ (a : ℕ). and_bit (bit_of_digit (operator_value operator.And a j) ∷ rest)) e ∙ ap (λ (b : ℕ). and_bit (bit_of_digit (operator_value operator.And 1 b) ∷ rest)) f)
+    ∙ sym (ap (λ (a : ℕ). and_bit (bit_of_digit (bit_and a j) ∷ rest)) e ∙ ap (λ (b : ℕ). and_bit (bit_of_digit (bit_and 1 b) ∷ rest)) f)
 and_step k j rest (inr e) (inr f) =
     (ap (λ (a : ℕ). and_bit (bit_of_digit a ∷ bit_of_digit j ∷ rest)) e ∙ ap (λ (b : ℕ). and_bit (bit_of_digit 1 ∷ bit_of_digit b ∷ rest)) f)
-    ∙ sym (ap (λ (a : ℕ). and_bit (bit_of_digit (operator_value operator.And a j) ∷ rest)) e ∙ ap (λ (b : ℕ). and_bit (bit_of_digit (operator_value operator.And 1 b) ∷ rest)) f)
+    ∙ sym (ap (λ (a : ℕ). and_bit (bit_of_digit (bit_and a j) ∷ rest)) e ∙ ap (λ (b : ℕ). and_bit (bit_of_digit (bit_and 1 b) ∷ rest)) f)
 
 or_step : (k j : ℕ) (rest : List Bit) → (k ≡ 0) ⊎ (k ≡ 1) → (j ≡ 0) ⊎ (j ≡ 1)
-    → or_bit (bit_of_digit k ∷ bit_of_digit j ∷ rest) ≡ or_bit (bit_of_digit (operator_value operator.Or k j) ∷ rest)
+    → or_bit (bit_of_digit k ∷ bit_of_digit j ∷ rest) ≡ or_bit (bit_of_digit (bit_or k j) ∷ rest)
 or_step k j rest (inl e) (inl f) =
     (ap (λ (a : ℕ). or_bit (bit_of_digit a ∷ bit_of_digit j ∷ rest)) e ∙ ap (λ (b : ℕ). or_bit (bit_of_digit 0 ∷ bit_of_digit b ∷ rest)) f)
-    ∙ sym (ap (λ (a : ℕ). or_bit (bit_of_digit (operator_value operator.Or a j) ∷ rest)) e ∙ ap (λ (b : ℕ). or_bit (bit_of_digit (operator_value operator.Or 0 b) ∷ rest)) f)
+    ∙ sym (ap (λ (a : ℕ). or_bit (bit_of_digit (bit_or a j) ∷ rest)) e ∙ ap (λ (b : ℕ). or_bit (bit_of_digit (bit_or 0 b) ∷ rest)) f)
 or_step k j rest (inl e) (inr f) =
     (ap (λ (a : ℕ). or_bit (bit_of_digit a ∷ bit_of_digit j ∷ rest)) e ∙ ap (λ (b : ℕ). or_bit (bit_of_digit 0 ∷ bit_of_digit b ∷ rest)) f)
-    ∙ sym (ap (λ (a : ℕ). or_bit (bit_of_digit (operator_value operator.Or a j) ∷ rest)) e ∙ ap (λ (b : ℕ). or_bit (bit_of_digit (operator_value operator.Or 0 b) ∷ rest)) f)
+    ∙ sym (ap (λ (a : ℕ). or_bit (bit_of_digit (bit_or a j) ∷ rest)) e ∙ ap (λ (b : ℕ). or_bit (bit_of_digit (bit_or 0 b) ∷ rest)) f)
 or_step k j rest (inr e) (inl f) =
     (ap (λ (a : ℕ). or_bit (bit_of_digit a ∷ bit_of_digit j ∷ rest)) e ∙ ap (λ (b : ℕ). or_bit (bit_of_digit 1 ∷ bit_of_digit b ∷ rest)) f)
-    ∙ sym (ap (λ (a : ℕ). or_bit (bit_of_digit (operator_value operator.Or a j) ∷ rest)) e ∙ ap (λ (b : ℕ). or_bit (bit_of_digit (operator_value operator.Or 1 b) ∷ rest)) f)
+    ∙ sym (ap (λ (a : ℕ). or_bit (bit_of_digit (bit_or a j) ∷ rest)) e ∙ ap (λ (b : ℕ). or_bit (bit_of_digit (bit_or 1 b) ∷ rest)) f)
 or_step k j rest (inr e) (inr f) =
     (ap (λ (a : ℕ). or_bit (bit_of_digit a ∷ bit_of_digit j ∷ rest)) e ∙ ap (λ (b : ℕ). or_bit (bit_of_digit 1 ∷ bit_of_digit b ∷ rest)) f)
-    ∙ sym (ap (λ (a : ℕ). or_bit (bit_of_digit (operator_value operator.Or a j) ∷ rest)) e ∙ ap (λ (b : ℕ). or_bit (bit_of_digit (operator_value operator.Or 1 b) ∷ rest)) f)
+    ∙ sym (ap (λ (a : ℕ). or_bit (bit_of_digit (bit_or a j) ∷ rest)) e ∙ ap (λ (b : ℕ). or_bit (bit_of_digit (bit_or 1 b) ∷ rest)) f)
 
-step_small : (op : Operator) (k j : ℕ) → (k ≡ 0) ⊎ (k ≡ 1) → (j ≡ 0) ⊎ (j ≡ 1) → operator_value op k j < 2
-step_small op k j hk hj = operator_small op k j (low k hk) (low j hj)
+step_small : (step : ℕ → ℕ → ℕ) (k j : ℕ) → StaysBit step → (k ≡ 0) ⊎ (k ≡ 1) → (j ≡ 0) ⊎ (j ≡ 1) → step k j < 2
+step_small step k j stays hk hj = stays k j (low k hk) (low j hj)
   where
     low : (a : ℕ) → (a ≡ 0) ⊎ (a ≡ 1) → a < 2
     low a (inl e) = omega (arith, e)
@@ -94,7 +92,7 @@ bits_of v names = map (λ name. bit_of_digit (v name)) names
 abbrev pub AreSmall : Valuation → List (List ℕ) → Type 0
 AreSmall v names = AllByRecursion (λ name. v name < 2) names
 
-and_bits : (v : Valuation) (k : ℕ) (names : List (List ℕ)) → k < 2 → AreSmall v names → and_bit (bit_of_digit k ∷ bits_of v names) ≡ bit_of_digit (folded operator.And v k names)
+and_bits : (v : Valuation) (k : ℕ) (names : List (List ℕ)) → k < 2 → AreSmall v names → and_bit (bit_of_digit k ∷ bits_of v names) ≡ bit_of_digit (folded bit_and v k names)
 and_bits v k [] low small = by (IsBit-cases k low)
   where
     by : (k ≡ 0) ⊎ (k ≡ 1) → and_bit (bit_of_digit k ∷ []) ≡ bit_of_digit k
@@ -103,9 +101,9 @@ and_bits v k [] low small = by (IsBit-cases k low)
 and_bits v k (name ∷ names) low small =
     let hk = IsBit-cases k low in
     let hj = IsBit-cases (v name) small.0 in
-    and_step k (v name) (bits_of v names) hk hj ∙ and_bits v (operator_value operator.And k (v name)) names (step_small operator.And k (v name) hk hj) small.1
+    and_step k (v name) (bits_of v names) hk hj ∙ and_bits v (bit_and k (v name)) names (step_small bit_and k (v name) bit_and-stays hk hj) small.1
 
-or_bits : (v : Valuation) (k : ℕ) (names : List (List ℕ)) → k < 2 → AreSmall v names → or_bit (bit_of_digit k ∷ bits_of v names) ≡ bit_of_digit (folded operator.Or v k names)
+or_bits : (v : Valuation) (k : ℕ) (names : List (List ℕ)) → k < 2 → AreSmall v names → or_bit (bit_of_digit k ∷ bits_of v names) ≡ bit_of_digit (folded bit_or v k names)
 or_bits v k [] low small = by (IsBit-cases k low)
   where
     by : (k ≡ 0) ⊎ (k ≡ 1) → or_bit (bit_of_digit k ∷ []) ≡ bit_of_digit k
@@ -114,7 +112,7 @@ or_bits v k [] low small = by (IsBit-cases k low)
 or_bits v k (name ∷ names) low small =
     let hk = IsBit-cases k low in
     let hj = IsBit-cases (v name) small.0 in
-    or_step k (v name) (bits_of v names) hk hj ∙ or_bits v (operator_value operator.Or k (v name)) names (step_small operator.Or k (v name) hk hj) small.1
+    or_step k (v name) (bits_of v names) hk hj ∙ or_bits v (bit_or k (v name)) names (step_small bit_or k (v name) bit_or-stays hk hj) small.1
 
 not_bit-digit : (k : ℕ) → k < 2 → not_bit (bit_of_digit k) ≡ bit_of_digit (1 - k)
 not_bit-digit k low = by (IsBit-cases k low)

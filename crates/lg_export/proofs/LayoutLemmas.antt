@@ -1,10 +1,9 @@
 -- One turn of each loop that lays out a part of the module.
-use Rattle.std.proofs.Common.{◌≡◌, ℕ, suc, ◌+◌, ◌<◌, Bool, true, false, not, cond, IsTrue, ◌↔◌, eq-eqb, Bor, List, [], ◌∷◌, ◌++◌, length, map, filter, get_or, drop, Option, Some, None, refl, sym, ap, subst, ◌∙◌, arith}
-use Rattle.std.specs.Prelude.{◌==◌, All}
+use Rattle.std.proofs.Common.{◌≡◌, ℕ, suc, ◌+◌, ◌<◌, Bool, true, false, not, cond, IsTrue, ◌↔◌, List, [], ◌∷◌, ◌++◌, length, map, filter, get_or, drop, None, refl, sym, ap, ◌∙◌, arith}
+use Rattle.std.specs.Prelude.{◌==◌}
 use Rattle.std.specs.List.{enumerate_from}
 use Rattle.std.proofs.lemmas.Bool.{eqb-true, false≢true}
-use Rattle.std.proofs.lemmas.List.{at_drop_more, get_or-map, length-map}
-use Rattle.std.proofs.lemmas.List.Elements.{All-same, All-get_or}
+use Rattle.std.proofs.lemmas.List.{at_drop_more}
 use Rattle.lg_netlist.specs.declared.netlist.PinUse.{PinUse}
 use Rattle.lg_netlist.specs.declared.netlist.Netlist.{Netlist}
 use Rattle.lg_verilog.specs.declared.module.Direction.TheVariants.{Input, Output}
@@ -18,10 +17,10 @@ pin_drivers p = map (λ net. (net, input_name p)) p.bits
 
 -- the port of an input pin and of an output pin, and an output pin's equation
 abbrev pub input_port : PinUse → Port
-input_port p = record { direction = Input; width = 1; name = input_name p }
+input_port p = record { direction = Input; range = None; name = input_name p }
 
 abbrev pub output_port : PinUse → Port
-output_port p = record { direction = Output; width = 1; name = output_name p }
+output_port p = record { direction = Output; range = None; name = output_name p }
 
 abbrev pub output_assign : Netlist → PinUse → Assign
 output_assign n p = record { name = output_name p; value = bits_value (drivers n) p.bits }

@@ -1,5 +1,5 @@
 -- The equations of the module stand in order: inputs of a gate, the gate, and at the end the output pins.
-use Rattle.std.proofs.Common.{◌≡◌, ℕ, ◌+◌, ◌^◌, ◌<◌, ◌≤◌, not, List, [], ◌∷◌, ◌++◌, length, map, filter, refl, sym, ap, subst, ◌∙◌, arith, inl, inr, ◌⊎◌, append_assoc, below_more}
+use Rattle.std.proofs.Common.{◌≡◌, ℕ, ◌+◌, ◌^◌, ◌<◌, ◌≤◌, not, List, [], ◌∷◌, ◌++◌, length, map, filter, refl, sym, ap, subst, ◌∙◌, arith, inl, inr, ◌⊎◌, append_assoc, below_more, None}
 use Rattle.std.specs.Prelude.{◌==◌}
 use Rattle.std.specs.List.{AllByRecursion, flat_map, enumerate_from}
 use Rattle.lg_netlist.specs.declared.netlist.Cell.{Cell}
@@ -10,8 +10,8 @@ use Rattle.lg_netlist.specs.OneGate.{driven_by_pins, driven}
 use Rattle.lg_netlist.specs.Static.{input_pins, output_pins}
 use Rattle.lg_verilog.specs.declared.module.Decl.{Decl}
 use Rattle.lg_verilog.specs.declared.module.Decl.TheVariants as decl
-use Rattle.lg_verilog.specs.declared.module.Expr.{Expr}
-use Rattle.lg_verilog.specs.declared.module.Expr.TheVariants as expr
+use Rattle.lg_verilog.specs.declared.expr.Expr.{Expr}
+use Rattle.lg_verilog.specs.declared.expr.Expr.TheVariants as expr
 use Rattle.lg_verilog.specs.declared.module.Assign.{Assign}
 use Rattle.lg_verilog.specs.declared.module.Module.{Module}
 use Rattle.lg_vmeaning.specs.Meaning.{width_of}
@@ -51,9 +51,9 @@ x_wholes-is : (k i : ℕ) (nets : List ℕ) → map (λ (e : ℕ × List ℕ). e
 x_wholes-is k i [] = refl
 x_wholes-is k i (net ∷ nets) = ap (λ (rest : List Expr). expr.Whole (input_wire k i) ∷ rest) (x_wholes-is k (i + 1) nets)
 
-x_decls-is : (k i : ℕ) (nets : List ℕ) → map (λ (e : ℕ × List ℕ). decl.Wire 1 (input_wire k e.0)) (enumerate_from i (map single nets)) ≡ map (λ (name : List ℕ). decl.Wire 1 name) (x_names k i nets)
+x_decls-is : (k i : ℕ) (nets : List ℕ) → map (λ (e : ℕ × List ℕ). decl.Wire None (input_wire k e.0)) (enumerate_from i (map single nets)) ≡ map (λ (name : List ℕ). decl.Wire None name) (x_names k i nets)
 x_decls-is k i [] = refl
-x_decls-is k i (net ∷ nets) = ap (λ (rest : List Decl). decl.Wire 1 (input_wire k i) ∷ rest) (x_decls-is k (i + 1) nets)
+x_decls-is k i (net ∷ nets) = ap (λ (rest : List Decl). decl.Wire None (input_wire k i) ∷ rest) (x_decls-is k (i + 1) nets)
 
 two_assigns : (a a' b b' : List Assign) → a ≡ a' → b ≡ b' → a ++ b ≡ a' ++ b'
 two_assigns a a' b b' e f = cc
@@ -74,12 +74,12 @@ part_assigns-is D k on p s =
 
 -- a gate's wires, written out
 pub part_decls-is : (k : ℕ) (on : List ℕ) (p : PartUse) (s : IsSimple on p)
-    → part_decls (k, p) ≡ map (λ (name : List ℕ). decl.Wire 1 name) (x_names k 0 (s.first ∷ s.more)) ++ decl.Wire 1 (output_wire k 0) ∷ []
+    → part_decls (k, p) ≡ map (λ (name : List ℕ). decl.Wire None name) (x_names k 0 (s.first ∷ s.more)) ++ decl.Wire None (output_wire k 0) ∷ []
 part_decls-is k on p s =
     let nets = s.first ∷ s.more in
-    let inputs : List (ℕ × List ℕ) → List Decl = λ es. map (λ (e : ℕ × List ℕ). decl.Wire 1 (input_wire k e.0)) es in
-    let outputs : List (List ℕ) → List Decl = λ ports. map (λ (o : ℕ × List ℕ). decl.Wire 1 (output_wire k o.0)) (enumerate_from 0 ports) in
-    two_decls (inputs (attached p)) (map (λ (name : List ℕ). decl.Wire 1 name) (x_names k 0 nets)) (outputs p.outputs) (decl.Wire 1 (output_wire k 0) ∷ [])
+    let inputs : List (ℕ × List ℕ) → List Decl = λ es. map (λ (e : ℕ × List ℕ). decl.Wire None (input_wire k e.0)) es in
+    let outputs : List (List ℕ) → List Decl = λ ports. map (λ (o : ℕ × List ℕ). decl.Wire None (output_wire k o.0)) (enumerate_from 0 ports) in
+    two_decls (inputs (attached p)) (map (λ (name : List ℕ). decl.Wire None name) (x_names k 0 nets)) (outputs p.outputs) (decl.Wire None (output_wire k 0) ∷ [])
     (ap inputs (attached-is on p s) ∙ x_decls-is k 0 nets) (ap outputs s.gives)
 
 -- names that stand before input i of part k

@@ -1,14 +1,12 @@
 -- The session table of rows of defined inputs on a one-gate circuit.
-use Rattle.std.proofs.Common.{◌≡◌, ℕ, suc, ◌+◌, ◌-◌, ◌≤◌, List, [], ◌∷◌, ◌++◌, map, Option, Some, None, refl, sym, ap, subst, ◌∙◌, arith, true}
+use Rattle.std.proofs.Common.{◌≡◌, ℕ, suc, ◌+◌, ◌-◌, ◌≤◌, List, [], ◌∷◌, ◌++◌, map, None, refl, sym, ap, subst, ◌∙◌, arith, true}
 use Rattle.std.specs.List.{AllByRecursion}
 use Rattle.lg_value.specs.declared.bit.Bit.{Bit}
 use Rattle.lg_value.specs.Word.{IsDefined, number_of}
-use Rattle.lg_timing.specs.declared.phase.Phase.{Phase}
-use Rattle.lg_timing.specs.declared.phase.Phase.TheVariants.{Settle, Rise, Fall}
 use Rattle.lg_timing.specs.Circuit.{Word, Stimulus}
 use Rattle.lg_timing.specs.Instant.{value_at}
 use Rattle.lg_timing.specs.Settling.{SettlesAt}
-use Rattle.lg_timing.specs.Session.{Line, Stop, Table, read_at, set_at, Ticks, HasClock, RowStops, GoesOn}
+use Rattle.lg_timing.specs.Session.{Line, Table, read_at, set_at, Ticks, GoesOn}
 use Rattle.lg_timing.proofs.OneTable.{one_table}
 use Rattle.lg_netlist.specs.declared.netlist.PinUse.{PinUse}
 use Rattle.lg_netlist.specs.declared.netlist.Netlist.{Netlist}
@@ -22,7 +20,7 @@ use Rattle.lg_export.specs.InTime.{LineAgrees, LinesAgree, AgreesInTime}
 use Rattle.lg_export.proofs.OneGateShape.{IsPinOn, IsOneGateShape, IsOneGateShape-from}
 use Rattle.lg_export.proofs.Agreeing.{one_bit_word}
 use Rattle.lg_export.proofs.NetBits.{AreBitsFor}
-use Rattle.lg_export.proofs.SettlesSoon.{Stays, settles_soon, static_when_quiet, one_instant, never_oscillates, no_clock, in_force-last}
+use Rattle.lg_export.proofs.SettlesSoon.{Stays, settles_soon, static_when_quiet, no_clock, in_force-last}
 
 -- a row of defined inputs has a bit for each pin
 bits_for : (on : List ℕ) (pins : List PinUse) (row : List Word) → AllByRecursion (IsPinOn on) pins → IsDefinedRow pins row → AreBitsFor pins row

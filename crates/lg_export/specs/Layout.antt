@@ -1,6 +1,6 @@
 -- The module of a netlist: each part has its own wires and its own equations, by its number.
 -- Source: the layout of this project, in the subset of IEEE 1364-2005.
-use Rattle.std.specs.Prelude.{ℕ, ◌+◌, not, ◌==◌, List, [], ◌∷◌, ◌++◌, length, map, filter, find, fold, slice_index, option_map, unwrap_or, codes}
+use Rattle.std.specs.Prelude.{ℕ, ◌+◌, not, ◌==◌, List, [], ◌∷◌, ◌++◌, length, map, filter, find, fold, slice_index, option_map, unwrap_or, codes, None}
 use Rattle.std.specs.List.{flat_map, enumerate_from}
 use Rattle.std.specs.Fmt.{decimal}
 use Rattle.lg_netlist.specs.declared.netlist.Cell.{Cell}
@@ -14,10 +14,10 @@ use Rattle.lg_verilog.specs.declared.module.Direction.TheVariants.{Input, Output
 use Rattle.lg_verilog.specs.declared.module.Port.{Port}
 use Rattle.lg_verilog.specs.declared.module.Decl.{Decl}
 use Rattle.lg_verilog.specs.declared.module.Decl.TheVariants as decl
-use Rattle.lg_verilog.specs.declared.module.Operator.{Operator}
-use Rattle.lg_verilog.specs.declared.module.Operator.TheVariants as operator
-use Rattle.lg_verilog.specs.declared.module.Expr.{Expr}
-use Rattle.lg_verilog.specs.declared.module.Expr.TheVariants as expr
+use Rattle.lg_verilog.specs.declared.expr.Operator.{Operator}
+use Rattle.lg_verilog.specs.declared.expr.Operator.TheVariants as operator
+use Rattle.lg_verilog.specs.declared.expr.Expr.{Expr}
+use Rattle.lg_verilog.specs.declared.expr.Expr.TheVariants as expr
 use Rattle.lg_verilog.specs.declared.module.Assign.{Assign}
 use Rattle.lg_verilog.specs.declared.module.Module.{Module}
 
@@ -84,8 +84,8 @@ equation cell.Or inputs = joined operator.Or inputs
 
 abbrev pub part_decls : ℕ × PartUse → List Decl
 part_decls p =
-    map (λ (i : ℕ × List ℕ). decl.Wire 1 (input_wire p.0 i.0)) (attached p.1)
-    ++ map (λ (o : ℕ × List ℕ). decl.Wire 1 (output_wire p.0 o.0)) (numbered p.1.outputs)
+    map (λ (i : ℕ × List ℕ). decl.Wire None (input_wire p.0 i.0)) (attached p.1)
+    ++ map (λ (o : ℕ × List ℕ). decl.Wire None (output_wire p.0 o.0)) (numbered p.1.outputs)
 
 -- a part's inputs take what drives them, and its output what the gate says of them
 abbrev pub part_assigns : List (ℕ × List ℕ) → ℕ × PartUse → List Assign
@@ -95,8 +95,8 @@ part_assigns drivers p =
 
 abbrev pub module_ports : Netlist → List Port
 module_ports n =
-    map (λ p. record { direction = Input; width = 1; name = input_name p }) (input_pins n)
-    ++ map (λ p. record { direction = Output; width = 1; name = output_name p }) (output_pins n)
+    map (λ p. record { direction = Input; range = None; name = input_name p }) (input_pins n)
+    ++ map (λ p. record { direction = Output; range = None; name = output_name p }) (output_pins n)
 
 abbrev pub module_assigns : Netlist → List Assign
 module_assigns n =
@@ -109,5 +109,7 @@ module_of n = record {
   name = codes "c_" ++ name_of_label n.circuit;
   ports = module_ports n;
   decls = flat_map part_decls (numbered n.parts);
+  init = None;
   assigns = module_assigns n;
+  edge = None;
 }

@@ -14,7 +14,7 @@ use crate::fault::NotAccepted;
 use crate::names::{input_name, module_name, output_name};
 use crate::parts::{put_assigns, put_decls};
 use lg_netlist::{Netlist, PartUse};
-use lg_verilog::{Assign, Decl, Direction, Module, Port};
+use lg_verilog::{Assign, Decl, Direction, Module, Port, Range};
 use sqlite_items::Items;
 use std::alloc::{AllocError, Global};
 
@@ -41,7 +41,9 @@ fn laid_out(alloc: Global, netlist: &Netlist) -> Result<Module, AllocError>
         name: module_name(alloc, netlist.circuit.as_str())?,
         ports: ports(alloc, netlist)?,
         decls: decls(alloc, netlist.parts.as_slice())?,
+        init: None,
         assigns: assigns(alloc, netlist)?,
+        edge: None,
     })
 }
 
@@ -56,7 +58,7 @@ fn ports(alloc: Global, netlist: &Netlist) -> Result<Items<Port>, AllocError>
         let name = input_name(alloc, pin)?;
         ports.push(Port {
             direction: Direction::Input,
-            width: 1,
+            range: Range::bit(),
             name,
         })?;
     }
@@ -65,7 +67,7 @@ fn ports(alloc: Global, netlist: &Netlist) -> Result<Items<Port>, AllocError>
         let name = output_name(alloc, pin)?;
         ports.push(Port {
             direction: Direction::Output,
-            width: 1,
+            range: Range::bit(),
             name,
         })?;
     }

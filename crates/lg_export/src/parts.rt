@@ -1,14 +1,14 @@
 //! The wires and the equations of a part.
 
 ghost use Rattle.std.specs.Prelude.{◌≡◌, ◌<◌, ◌++◌, length, map, IfOk, OnOk};
-ghost use Rattle.lg_verilog.specs.declared.module.Expr.TheVariants.{Whole};
+ghost use Rattle.lg_verilog.specs.declared.expr.Expr.TheVariants.{Whole};
 ghost use Rattle.lg_export.specs.Layout.{input_wire, attached, part_decls, part_assigns, first_of, joined, equation};
 ghost use Rattle.lg_export.specs.Readable.{IsFed};
 
 use crate::drivers::Drivers;
 use crate::names::{input_wire, output_wire};
 use lg_netlist::{Cell, PartUse};
-use lg_verilog::{Assign, Decl, Expr, Operator};
+use lg_verilog::{Assign, Decl, Expr, Operator, Range};
 use sqlite_items::{Boxed, Items};
 use std::alloc::{AllocError, Global};
 
@@ -24,12 +24,18 @@ pub fn put_decls(
     for (input, bits) in used.inputs.as_slice().iter().enumerate() {
         if !bits.is_empty() {
             let name = input_wire(alloc, part, input)?;
-            decls.push(Decl::Wire { width: 1, name })?;
+            decls.push(Decl::Wire {
+                range: Range::bit(),
+                name,
+            })?;
         }
     }
     for output in 0..used.outputs.len() {
         let name = output_wire(alloc, part, output)?;
-        decls.push(Decl::Wire { width: 1, name })?;
+        decls.push(Decl::Wire {
+            range: Range::bit(),
+            name,
+        })?;
     }
     Ok(())
 }

@@ -1,6 +1,6 @@
 -- Equations that stand in order: each reads only names that are known before it, and gives a number to a new one.
 use Rattle.std.specs.Prelude.{◌≡◌, ◌<◌, ℕ, List, [], ◌∷◌, ◌⊎◌}
-use Rattle.lg_verilog.specs.declared.module.Expr.{Expr}
+use Rattle.lg_verilog.specs.declared.expr.Expr.{Expr}
 use Rattle.lg_verilog.specs.declared.module.Assign.{Assign}
 use Rattle.lg_verilog.specs.declared.module.Module.{Module}
 use Rattle.lg_vmeaning.specs.Meaning.{Valuation, value_of}

@@ -1,6 +1,7 @@
 -- What a module means: equations over numbers, and the valuations that solve them.
 -- Source: IEEE 1364-2005, 6.1 (continuous assignments), 5.1 and 5.4 (operators and the widths of expressions).
-use Rattle.std.specs.Prelude.{◌≡◌, ℕ, ◌-◌, ◌^◌, ◌<◌, Bool, true, false, not, List, ◌++◌, map, filter, find, option_map, unwrap_or, bit_and, bit_or}
+use Rattle.std.specs.Prelude.{◌≡◌, ℕ, ◌+◌, ◌-◌, ◌*◌, ◌/◌, ◌%◌, ◌^◌, ◌<◌, ◌==◌, nat_lt, Bool, true, false, not, IsTrue, List, ◌++◌, map, filter, find, fold, Option, Some, None, option_map, unwrap_or, if◌then◌else◌, bit_and, bit_or, bit_xor}
+use Rattle.std.specs.Int.{bit_at}
 use Rattle.std.specs.List.{AllByRecursion}
 use Rattle.std.specs.Str.{bytes_eq}
 use Rattle.lg_verilog.specs.declared.module.Direction.{Direction}
@@ -8,10 +9,10 @@ use Rattle.lg_verilog.specs.declared.module.Direction.TheVariants.{Input, Output
 use Rattle.lg_verilog.specs.declared.module.Port.{Port}
 use Rattle.lg_verilog.specs.declared.module.Decl.{Decl}
 use Rattle.lg_verilog.specs.declared.module.Decl.TheVariants as decl
-use Rattle.lg_verilog.specs.declared.module.Operator.{Operator}
-use Rattle.lg_verilog.specs.declared.module.Operator.TheVariants as operator
-use Rattle.lg_verilog.specs.declared.module.Expr.{Expr, fold-Expr}
-use Rattle.lg_verilog.specs.declared.module.Expr.TheOpen.{Expr-F}
+use Rattle.lg_verilog.specs.declared.expr.Operator.{Operator}
+use Rattle.lg_verilog.specs.declared.expr.Operator.TheVariants as operator
+use Rattle.lg_verilog.specs.declared.expr.Expr.{Expr, fold-Expr}
+use Rattle.lg_verilog.specs.declared.expr.Expr.TheOpen.{Expr-F}
 use Rattle.lg_verilog.specs.declared.module.Assign.{Assign}
 use Rattle.lg_verilog.specs.declared.module.Module.{Module}
 
@@ -23,11 +24,18 @@ Valuation = List ℕ → ℕ
 abbrev pub Line : Type 0
 Line = List ℕ × ℕ
 
+-- how many bits a range has: those from its high index down to 0, and one where there is none
+abbrev pub range_width : Option ℕ → ℕ
+range_width None = 1
+range_width (Some high) = high + 1
+
 abbrev pub port_line : Port → Line
-port_line p = (p.name, p.width)
+port_line p = (p.name, range_width p.range)
 
 abbrev pub decl_line : Decl → Line
-decl_line (decl.Wire width name) = (name, width)
+decl_line (decl.Wire range name) = (name, range_width range)
+decl_line (decl.Reg range name start) = (name, range_width range)
+decl_line (decl.Memory range name last) = (name, range_width range)
 
 -- all that a module declares: its ports, then its wires
 abbrev pub declared : Module → List Line
@@ -51,18 +59,62 @@ input_names m = map (λ p. p.name) (filter is_input m.ports)
 abbrev pub output_names : Module → List (List ℕ)
 output_names m = map (λ p. p.name) (filter (λ p. not (is_input p)) m.ports)
 
-abbrev pub operator_value : Operator → ℕ → ℕ → ℕ
-operator_value operator.And a b = bit_and a b
-operator_value operator.Or a b = bit_or a b
+-- 1 for yes and 0 for no
+abbrev pub number_of_test : Bool → ℕ
+number_of_test true = 1
+number_of_test false = 0
 
--- the width and the value of an expression from those of its parts: numbers modulo 2 to the width
+-- the number of an operation between numbers of this width, modulo 2 to the width; `==` and `<` are unsigned, and a shift by
+-- the width or more gives 0
+abbrev pub operator_value : Operator → ℕ → ℕ → ℕ → ℕ
+operator_value operator.And width a b = bit_and a b
+operator_value operator.Or width a b = bit_or a b
+operator_value operator.Xor width a b = bit_xor a b
+operator_value operator.Add width a b = (a + b) % 2 ^ width
+operator_value operator.Subtract width a b = (a + 2 ^ width - b) % 2 ^ width
+operator_value operator.Multiply width a b = (a * b) % 2 ^ width
+operator_value operator.Divide width a b = a / b
+operator_value operator.Remainder width a b = a % b
+operator_value operator.Equal width a b = number_of_test (a == b)
+operator_value operator.Less width a b = number_of_test (nat_lt a b)
+operator_value operator.ShiftLeft width a b = (a * 2 ^ b) % 2 ^ width
+operator_value operator.ShiftRight width a b = a / 2 ^ b
+
+-- how wide an operation is: a comparison has one bit, all else the width of its left side
+abbrev pub operator_width : Operator → ℕ → ℕ
+operator_width operator.Equal width = 1
+operator_width operator.Less width = 1
+operator_width _ width = width
+
+-- two words in braces, the first above the second
+abbrev pub joined : ℕ × ℕ → ℕ × ℕ → ℕ × ℕ
+joined high low = (high.0 + low.0, high.1 * 2 ^ low.0 + low.1)
+
+-- the width and the value of an expression from those of its parts; a module without memories has no words of them
 abbrev pub form_value : (List ℕ → ℕ) → Valuation → Expr-F (ℕ × ℕ) → ℕ × ℕ
+form_value width value (Expr-F.Const c) = (c.width, c.value)
 form_value width value (Expr-F.Whole name) = (width name, value name)
+form_value width value (Expr-F.Place name place) = (1, bit_at (value name) place)
+form_value width value (Expr-F.Part name high low) = (high + 1 - low, (value name / 2 ^ low) % 2 ^ (high + 1 - low))
+form_value width value (Expr-F.Item name e) = (width name, 0)
+form_value width value (Expr-F.Join a b more) = fold joined (joined a b) more
 form_value width value (Expr-F.Not e) = (e.0, 2 ^ e.0 - 1 - e.1)
-form_value width value (Expr-F.Binary a op b) = (a.0, operator_value op a.1 b.1)
+form_value width value (Expr-F.Binary a op b) = (operator_width op a.0, operator_value op a.0 a.1 b.1)
+form_value width value (Expr-F.Choice c a b) = (a.0, if c.1 == 0 then b.1 else a.1)
 
 abbrev pub value_of : Module → Valuation → Expr → ℕ
 value_of m value e = (fold-Expr (ℕ × ℕ) (form_value (width_of m) value) e).1
+
+abbrev pub is_wire : Decl → Bool
+is_wire (decl.Wire range name) = true
+is_wire (decl.Reg range name start) = false
+is_wire (decl.Memory range name last) = false
+
+-- the module has neither registers nor memories, and nothing happens at an edge
+pub record IsCombinational (m : Module) : Type 0 where
+  pub wires : AllByRecursion (λ (d : Decl). IsTrue (is_wire d)) m.decls
+  pub no_init : m.init ≡ None
+  pub no_edge : m.edge ≡ None
 
 -- the valuation gives the inputs these numbers, and makes every `assign` an equation
 pub record IsSolution (m : Module) (numbers : List ℕ) (value : Valuation) : Type 0 where
@@ -75,8 +127,9 @@ pub record IsSolution (m : Module) (numbers : List ℕ) (value : Valuation) : Ty
 abbrev pub AgreeOn : Module → Valuation → Valuation → Type 0
 AgreeOn m v w = AllByRecursion (λ (l : Line). v l.0 ≡ w l.0) (declared m)
 
--- the module has exactly one solution for these inputs, and these are its outputs
+-- the module has no state, and exactly one solution for these inputs, and these are its outputs
 pub record HasOutputs (m : Module) (numbers outputs : List ℕ) : Type 0 where
+  pub combinational : IsCombinational m
   pub value : Valuation
   pub solves : IsSolution m numbers value
   pub only : (other : Valuation) → IsSolution m numbers other → AgreeOn m value other

@@ -1,4 +1,4 @@
-use Rattle.std.proofs.Common.{◌≡◌, ◌++◌, map, drop}
+use Rattle.std.proofs.Common.{◌≡◌, ◌++◌, map, drop, None}
 use Rattle.std.specs.List.{enumerate_from}
 use Rattle.lg_verilog.specs.declared.module.Decl.TheVariants as decl
 use Rattle.lg_export.specs.Layout.{input_wire, output_wire, numbered, part_decls}
@@ -8,9 +8,9 @@ use Rattle.lg_export.proofs.parts.put_decls.Given as goal
 -- the wires so far and those that are left are all
 abbrev pub invariant-loop-input : goal.invariant-loop-input
 invariant-loop-input l =
-    l.decls ++ map (λ i. decl.Wire 1 (input_wire l.part i.0)) (attached_from l.input (drop l.input l.used.inputs)) ++ map (λ o. decl.Wire 1 (output_wire l.part o.0)) (numbered l.used.outputs)
+    l.decls ++ map (λ i. decl.Wire None (input_wire l.part i.0)) (attached_from l.input (drop l.input l.used.inputs)) ++ map (λ o. decl.Wire None (output_wire l.part o.0)) (numbered l.used.outputs)
     ≡ l.fn.decls ++ part_decls (l.part, l.used)
 
 abbrev pub invariant-loop-output : goal.invariant-loop-output
 invariant-loop-output l =
-    l.decls ++ map (λ o. decl.Wire 1 (output_wire l.part o.0)) (enumerate_from l.output (drop l.output l.used.outputs)) ≡ l.fn.decls ++ part_decls (l.part, l.used)
+    l.decls ++ map (λ o. decl.Wire None (output_wire l.part o.0)) (enumerate_from l.output (drop l.output l.used.outputs)) ≡ l.fn.decls ++ part_decls (l.part, l.used)

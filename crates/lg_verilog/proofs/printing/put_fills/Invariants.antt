@@ -1,0 +1,8 @@
+use Rattle.std.proofs.Common.{◌≡◌, ◌++◌, drop}
+use Rattle.std.specs.List.{flat_map}
+use Rattle.lg_verilog.specs.Printed.{fill_text}
+use Rattle.lg_verilog.proofs.printing.put_fills.Given as goal
+
+-- what is printed and what is left are all
+abbrev pub invariant-loop-fill : goal.invariant-loop-fill
+invariant-loop-fill l = l.out.items ++ flat_map fill_text (drop l.fill-index l.fills) ≡ l.fn.out.items ++ flat_map fill_text l.fills

@@ -1,0 +1,8 @@
+use Rattle.std.proofs.Common.{◌≡◌, ◌++◌, drop}
+use Rattle.std.specs.List.{flat_map}
+use Rattle.lg_verilog.specs.Printed.{word_text}
+use Rattle.lg_verilog.proofs.printing.put_words.Given as goal
+
+-- what is printed and what is left are all
+abbrev pub invariant-loop-word : goal.invariant-loop-word
+invariant-loop-word l = l.out.items ++ flat_map word_text (drop l.word-index l.words) ≡ l.fn.out.items ++ flat_map word_text l.words
