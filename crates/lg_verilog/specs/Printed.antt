@@ -1,6 +1,6 @@
 -- The printed layout of a module: each item has a line of its own.
 -- Source: the subset of IEEE 1364-2005 that is emitted (12.1 modules, 6.1 continuous assignments, 9.2 assignments in procedures, 5.1 operators).
-use Rattle.std.specs.Prelude.{ℕ, List, [], ◌∷◌, ◌++◌, map, Option, Some, None, codes}
+use Rattle.std.specs.Prelude.{ℕ, List, [], ◌∷◌, ◌++◌, Option, Some, None, codes}
 use Rattle.std.specs.List.{flat_map}
 use Rattle.std.specs.Fmt.{decimal}
 use Rattle.lg_verilog.specs.declared.module.Direction.{Direction}

@@ -1,5 +1,5 @@
 -- The tokens of the subset. Source: IEEE 1364-2005, 2.1 (white space), 3.5 (numbers), 3.7 (identifiers), in a narrower form.
-use Rattle.std.specs.Prelude.{ℕ, ◌==◌, nat_le, ◌^◌, Bool, true, false, ◌&&◌, ◌||◌, List, [], ◌∷◌, length, Option, Some, None, codes}
+use Rattle.std.specs.Prelude.{ℕ, ◌==◌, nat_le, Bool, true, false, ◌&&◌, ◌||◌, List, [], ◌∷◌, length, Option, Some, None, codes}
 use Rattle.std.specs.Char.{is_ascii_alphabetic, is_ascii_digit}
 use Rattle.std.specs.List.{list_all}
 use Rattle.std.specs.Str.{bytes_eq}

@@ -1,6 +1,6 @@
 //! Expressions as text, in the printed layout.
 
-ghost use Rattle.std.specs.Prelude.{◌≡◌, ◌++◌, OnOk, codes, map};
+ghost use Rattle.std.specs.Prelude.{◌≡◌, ◌++◌, OnOk, codes};
 ghost use Rattle.std.specs.Fmt.{decimal};
 ghost use Rattle.lg_verilog.specs.Printed.{constant_text, operator_text, expr_text};
 

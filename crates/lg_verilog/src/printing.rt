@@ -1,8 +1,7 @@
 //! Modules as text, in the printed layout.
 
-ghost use Rattle.std.specs.Prelude.{◌≡◌, ◌++◌, IfOk, OnOk, codes};
+ghost use Rattle.std.specs.Prelude.{◌≡◌, ◌++◌, IfOk, OnOk};
 ghost use Rattle.std.specs.List.{flat_map};
-ghost use Rattle.std.specs.Fmt.{decimal};
 ghost use Rattle.lg_verilog.specs.Printed.{range_text, direction_text, port_text, ports_text, decl_text, loop_text, fill_text, word_text, starts_text, init_text, assign_text, always_text, stmt_text, edge_text, head_text, module_text};
 
 use crate::expr_printing::{put, put_constant, put_expr, put_number};

@@ -1,6 +1,6 @@
 //! Ranges of ports and declarations.
 
-ghost use Rattle.std.specs.Prelude.{◌≡◌, ◌≤◌, ◌<◌, ◌^◌, None, Some, IfSome, IsTrue};
+ghost use Rattle.std.specs.Prelude.{◌≡◌, ◌≤◌, None, Some, IsTrue};
 ghost use Rattle.lg_verilog.specs.Token.{is_range};
 
 use std::marker::Model;
