@@ -31,11 +31,11 @@ abbrev pub bit_of : Bool → Bit
 bit_of true = One
 bit_of false = Zero
 
--- AND: 0 where some bit is 0; where none is, an error if a bit is undefined, and else 1
+-- AND: a 0 gives 0, else an undefined bit gives an error, else 1
 abbrev pub and_bit : List Bit → Bit
 and_bit bits = if some_zero bits then Zero else (if all_defined bits then One else Error)
 
--- OR: 1 where some bit is 1; where none is, an error if a bit is undefined, and else 0
+-- OR: a 1 gives 1, else an undefined bit gives an error, else 0
 abbrev pub or_bit : List Bit → Bit
 or_bit bits = if some_one bits then One else (if all_defined bits then Zero else Error)
 

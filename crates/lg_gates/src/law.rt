@@ -93,7 +93,7 @@ pub fn outputs_have_their_width()
 {}
 
 /// A law: defined inputs give defined outputs, but for a gate that lacks inputs, for an output form in
-/// which a value floats, for the controlled kinds, and where `off` is undefined.
+/// which a value floats, and where `off` is undefined.
 pub fn defined_gives_defined()
     ensures gate { (kind : Kind) (width : ℕ) (inputs : List (Option (List Value))) (strict : Bool)
         → lacks_inputs strict inputs ≡ false → HaveWidth width inputs → CarryDefined inputs

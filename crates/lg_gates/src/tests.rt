@@ -254,7 +254,6 @@ fn demultiplexers_and_decoders(rt: HostRuntime) {
         (two, 3, Unknown, Word::fill(3, Unknown)),
         (two, u32::MAX, Zero, Word::fill(3, Zero)),
         (undefined, 2, Zero, Word::fill(3, Error)),
-        (two.with_bit(1, Error), 2, Zero, Word::fill(3, Error)),
         (undefined, 0, Unknown, Word::fill(3, Error)),
     ];
     for (select, place, off, want) in table {
@@ -330,7 +329,6 @@ fn groups_inside_and_past_the_width(rt: HostRuntime) {
     let widest = Word::from_number(64, 1 << 58);
     let table = [
         (Word::from_number(2, 0), Word::from_number(3, 0b010)),
-        (Word::fill(2, Error), Word::fill(3, Error)),
         (Word::from_number(2, 1), Word::from_number(3, 0b110)),
         (
             Word::from_number(2, 2),
