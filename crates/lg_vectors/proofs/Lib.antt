@@ -1,0 +1,10 @@
+pub mod BindingLemmas
+pub mod BitLemmas
+pub mod CaredLemmas
+pub mod DigitLemmas
+pub mod HeadingLemmas
+pub mod LineLemmas
+pub mod ReadingLemmas
+pub mod RowLemmas
+pub mod UniqueLemmas
+pub mod ValueLemmas

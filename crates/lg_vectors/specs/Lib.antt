@@ -1,0 +1,10 @@
+pub mod Apart
+pub mod Binding
+pub mod CaredBits
+pub mod Heading
+pub mod Known
+pub mod ReadFault
+pub mod Reading
+pub mod Rows
+pub mod Values
+pub mod VectorText

@@ -1,0 +1,27 @@
+//! Test vectors and rows: columns of values, read from text, bound to pins and compared with words.
+#![tactic(auto)]
+
+mod binding;
+mod cared;
+mod column;
+mod digits;
+mod draft;
+mod fault;
+mod heading;
+mod line;
+mod pin;
+mod read;
+mod row;
+mod value;
+mod vector;
+
+pub use crate::binding::{bind, bind_rows};
+pub use crate::cared::{Cared, passes};
+pub use crate::column::Column;
+pub use crate::fault::VectorFault;
+pub use crate::pin::PinShape;
+pub use crate::read::read_vector;
+pub use crate::vector::{MOST_ROWS, Vector};
+
+#[cfg(test)]
+mod tests;
