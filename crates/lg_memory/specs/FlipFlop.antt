@@ -30,7 +30,7 @@ sr_stored q One Zero = One
 sr_stored q One One = q
 sr_stored q _ _ = Error
 
--- the bit that a triggered flip-flop stores, from the bit that it holds and its inputs, data first
+-- the bit that a triggered flip-flop stores, from the bit that it holds and its inputs
 abbrev pub flip_stored : FlipKind → Bit → List Word → Bit
 flip_stored D q inputs = bit_at inputs 0
 flip_stored T q inputs = toggled q (bit_at inputs 0)

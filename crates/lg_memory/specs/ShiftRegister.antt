@@ -20,8 +20,7 @@ loads_or_shifts One sh d held next = d
 loads_or_shifts _ Zero d held next = held
 loads_or_shifts _ _ d held next = next
 
--- the stages of a triggered shift register; its inputs are si, sh, clk, clr and, where it is parallel, ld and each
--- stage's data
+-- the stages of a triggered shift register
 abbrev pub shift_words : Bool → List Word → List Word → List Word
 shift_words parallel stages inputs =
     loads_or_shifts (load_bit parallel inputs) (bit_at inputs 1) (drop 5 inputs) stages

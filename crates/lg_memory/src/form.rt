@@ -20,7 +20,7 @@ pub enum Trigger {
 pub enum FlipKind {
     /// Stores its data.
     D,
-    /// Its bit turns over where its input is 1.
+    /// Inverts on 1.
     T,
     /// Clears, sets, and inverts where both inputs are 1.
     Jk,

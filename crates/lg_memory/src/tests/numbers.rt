@@ -45,7 +45,7 @@ fn register_stores_unless_its_enable_is_zero(rt: HostRuntime) {
 }
 
 // A rising edge of a counter of 2 bits with the greatest number 2, which is given 1; the controls are load, up or down,
-// enable and clear. It tells `q` after the edge and `carry` before it.
+// enable and clear. It tells `q` and then `carry`, with the controls still there.
 fn counter_after(goal: Goal, held: Word, controls: [Bit; 4]) -> (Word, Word)
     requires { length held ≡ 2 }
 {

@@ -5,7 +5,7 @@ ghost use Rattle.lg_memory.specs.Form.{IsForm};
 ghost use Rattle.lg_memory.specs.Shape.{HasShape, FitsInputs, output_widths};
 
 use super::one;
-use crate::{FlipKind, Goal, State, StateForm, Trigger, out, renew, start, step};
+use crate::{State, StateForm, Trigger, out, renew, start, step};
 use lg_value::Bit::{Error, One, Unknown, Zero};
 use lg_value::{Bit, Word};
 use sqlite_items::Items;
@@ -45,10 +45,10 @@ fn shift_register_of_64_stages_shows_its_last(rt: HostRuntime) {
     let high = [one(One), one(One), one(One), one(Zero)];
     repeat(&form, &mut state, &low, &high, 63);
     assert_eq!(rt; out(&form, &state, &low, 0), one(Zero));
+    repeat(&form, &mut state, &low, &high, 1);
+    assert_eq!(rt; out(&form, &state, &low, 0), one(One));
     let still = [one(Zero), one(Zero), one(One), one(Zero)];
     step(&form, &mut state, &low, &still);
-    assert_eq!(rt; out(&form, &state, &low, 0), one(Zero));
-    repeat(&form, &mut state, &low, &high, 1);
     assert_eq!(rt; out(&form, &state, &low, 0), one(One));
     let cleared = [one(Zero), one(Zero), one(Zero), one(One)];
     step(&form, &mut state, &low, &cleared);
@@ -128,27 +128,6 @@ fn single_stage_takes_the_serial_input(rt: HostRuntime) {
 }
 
 #[test]
-fn flip_flops_registers_and_counters_start_at_zero(rt: HostRuntime) {
-    let flip = StateForm::Flip {
-        kind: FlipKind::Jk,
-        trigger: Trigger::Rising,
-    };
-    let register = StateForm::Register {
-        width: 8,
-        trigger: Trigger::Low,
-    };
-    let counter = StateForm::Counter {
-        width: 8,
-        max: 9,
-        goal: Goal::Stay,
-        trigger: Trigger::Falling,
-    };
-    assert!(rt; matches!(start(rt.alloc(), &flip), Ok(State::One(word)) if word == one(Zero)));
-    assert!(rt; matches!(start(rt.alloc(), &register), Ok(State::One(word)) if word == byte(0)));
-    assert!(rt; matches!(start(rt.alloc(), &counter), Ok(State::One(word)) if word == byte(0)));
-}
-
-#[test]
 fn rom_reads_its_words_and_zeros_behind_them(rt: HostRuntime) {
     let Ok(words) = vec![in rt.alloc(); 5u64, 7] else {
         panic!(rt; "memory");
@@ -158,7 +137,6 @@ fn rom_reads_its_words_and_zeros_behind_them(rt: HostRuntime) {
         width: 8,
         words: Items::from_vec(words),
     };
-    assert!(rt; matches!(start(rt.alloc(), &form), Ok(State::None)));
     assert_eq!(rt;
         out(&form, &State::None, &[Word::from_number(2, 0)], 0),
         byte(5)
