@@ -31,11 +31,11 @@ abbrev pub bit_of : Bool → Bit
 bit_of true = One
 bit_of false = Zero
 
--- AND: a 0 gives 0, else an undefined bit gives an error, else 1
+-- AND: one 0 decides; without one the answer is 1, if each bit is known to be 1
 abbrev pub and_bit : List Bit → Bit
 and_bit bits = if some_zero bits then Zero else (if all_defined bits then One else Error)
 
--- OR: a 1 gives 1, else an undefined bit gives an error, else 0
+-- OR: one 1 decides; without one the answer is 0, if each bit is known to be 0
 abbrev pub or_bit : List Bit → Bit
 or_bit bits = if some_one bits then One else (if all_defined bits then Zero else Error)
 

@@ -93,7 +93,8 @@ pub fn outputs_have_their_width()
 {}
 
 /// A law: defined inputs give defined outputs, but for a gate that lacks inputs, for an output form in
-/// which a value floats, and where `off` is undefined.
+/// which a value floats, for a controlled buffer or inverter, which floats where its control is 0, and
+/// where `off` is undefined.
 pub fn defined_gives_defined()
     ensures gate { (kind : Kind) (width : ℕ) (inputs : List (Option (List Value))) (strict : Bool)
         → lacks_inputs strict inputs ≡ false → HaveWidth width inputs → CarryDefined inputs

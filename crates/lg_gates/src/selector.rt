@@ -11,6 +11,7 @@ fn bits_from(word: &Word, start: u64, count: u32) -> Word
     requires { IsWidth count }
     ensures bits { result ≡ bits_from word.now start count }
     ensures width { length result ≡ count }
+    // For the caller: a start past 64 lies past every word.
     ensures short { length word.now ≤ 64 }
 {
     let width = word.width();

@@ -35,7 +35,7 @@ loads_or_counts One en d held next = d
 loads_or_counts _ Zero d held next = held
 loads_or_counts _ _ d held next = next
 
--- the word that a triggered counter holds
+-- the word that a triggered counter holds. Inputs by place: 0 `d`, 1 `ld`, 2 `ud`, 3 `en`, 4 `clk`, 5 `clr`.
 abbrev pub counter_word : Goal → ℕ → ℕ → Word → List Word → Word
 counter_word goal width max held inputs =
     loads_or_counts (bit_at inputs 1) (bit_at inputs 3) (word_at inputs 0) held

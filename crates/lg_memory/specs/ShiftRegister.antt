@@ -20,7 +20,8 @@ loads_or_shifts One sh d held next = d
 loads_or_shifts _ Zero d held next = held
 loads_or_shifts _ _ d held next = next
 
--- the stages of a triggered shift register
+-- the stages of a triggered shift register. Inputs by place: 0 `si`, 1 `sh`, 2 `clk`, 3 `clr`, and where the
+-- stages are parallel 4 `ld` and from 5 on their data.
 abbrev pub shift_words : Bool → List Word → List Word → List Word
 shift_words parallel stages inputs =
     loads_or_shifts (load_bit parallel inputs) (bit_at inputs 1) (drop 5 inputs) stages

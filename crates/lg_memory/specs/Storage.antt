@@ -10,7 +10,7 @@ abbrev pub stored_at : Option ℕ → Bit → Word → List Word → List Word
 stored_at (Some address) One d words = slice_set words address d
 stored_at _ _ d words = words
 
--- the words of a triggered RAM
+-- the words of a triggered RAM. Inputs by place: 0 `a`, 1 `d`, 2 `we`, 3 `clk`.
 abbrev pub ram_words : List Word → List Word → List Word
 ram_words words inputs = stored_at (defined_number (word_at inputs 0)) (bit_at inputs 2) (word_at inputs 1) words
 

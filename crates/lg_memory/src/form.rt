@@ -20,7 +20,7 @@ pub enum Trigger {
 pub enum FlipKind {
     /// Stores its data.
     D,
-    /// Inverts on 1.
+    /// Turns over where its input is 1.
     T,
     /// Clears, sets, and inverts where both inputs are 1.
     Jk,

@@ -25,7 +25,7 @@ pub fn read_image(
     requires { IsWidth width }
     ensures found { IfOk result (λ read. IsImage width bytes.now read.items × (length read.items ≤ words)) }
     // An image is read as its words, unless there are too many or memory runs out.
-    // So bytes have one list of words at most.
+    // So where words are given, no other list is the image's.
     ensures only { (all : List ℕ) → IsImage width bytes.now all
         → MatchResult result
         (λ read. read.items ≡ all)

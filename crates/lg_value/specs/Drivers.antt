@@ -15,8 +15,8 @@ abbrev pub is_only_value : Bit → List Bit → Bool
 is_only_value value drivers =
     list_any (same_bit value) drivers && list_all (λ driver. same_bit Unknown driver || same_bit value driver) drivers
 
--- the join of the drivers of a wire: unknown where every one of them is unknown or there is none,
--- a value where it is the only one among them other than unknown, and error in every other case
+-- the join of the drivers of a wire. An unknown driver has no say: where the rest all say one value the
+-- wire has that one, with none left it is unknown, and where they do not agree it is in error.
 unfoldable pub join_of_drivers : List Bit → Bit
 join_of_drivers drivers =
     if all_unknown drivers then Unknown
