@@ -1,0 +1,6 @@
+use Rattle.std.proofs.Common.{rules}
+use Rattle.lg_workers.proofs.Steps.{splits}
+use Rattle.lg_workers.proofs.claims.Claims.split.Goals as goal
+
+pub split_seat-seat-requires : goal.split_seat-seat-requires
+split_seat-seat-requires c = (search rules, search rules, splits _ _ _ (search rules))
