@@ -1,2 +1,6 @@
 pub mod Token
 pub mod Printed
+pub mod Grammar
+pub mod Depth
+pub mod Reading
+pub mod Lexing

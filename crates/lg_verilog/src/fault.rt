@@ -1,8 +1,9 @@
-//! The one way in which printing can fail.
+//! Why a module is not printed or not read.
 
 ghost use Rattle.std.specs.Prelude.{◌≡◌};
+ghost use Rattle.lg_verilog.specs.declared.fault.ReadFault.TheVariants.{Memory as NoMemory};
 
-use std::alloc::AllocError;
+use std::alloc::{AllocError, AllocFailed};
 
 /// There was no memory.
 #[derive(Clone, Copy, Debug, PartialEq, Eq)]
@@ -11,5 +12,30 @@ pub struct Memory;
 impl From<AllocError> for Memory {
     fn from(_e: AllocError) -> Memory {
         Memory
+    }
+}
+
+/// Why `read_module` gives no module.
+#[derive(Clone, Copy, Debug, PartialEq, Eq)]
+pub enum ReadFault {
+    /// No module within the reader's limits has these bytes.
+    NotSubset,
+    /// There was no memory.
+    Memory,
+}
+
+impl From<AllocError> for ReadFault {
+    ghost from_gives = { λ _ e. e ≡ NoMemory };
+
+    fn from(_e: AllocError) -> ReadFault {
+        ReadFault::Memory
+    }
+}
+
+impl<T: Drop> From<AllocFailed<T>> for ReadFault {
+    ghost from_gives = { λ _ e. e ≡ NoMemory };
+
+    fn from(_e: AllocFailed<T>) -> ReadFault {
+        ReadFault::Memory
     }
 }

@@ -1,0 +1,102 @@
+//! The tokens of a text, taken one at a time from the left.
+
+ghost use Rattle.std.specs.Prelude.{◌≡◌, IsTrue, if◌then◌else◌};
+ghost use Rattle.lg_verilog.specs.Lexing.{tokens_of, left, behind, is_fixed};
+ghost use Rattle.lg_verilog.specs.Reading.{Gives, Goes, Tries, is_at, tail, after, name_at, number_at, constant_at};
+
+use crate::class::split_token;
+use crate::expr::Constant;
+use crate::fault::ReadFault;
+use crate::name::Name;
+use crate::spelling::{constant_of, is_name, number_of};
+use lg_text::Text;
+use std::alloc::Global;
+
+/// A text from its first token on that is not taken yet.
+#[derive(Drop)]
+pub struct Reader<'a> {
+    token: &'a [u8],
+    rest: &'a [u8],
+}
+
+impl<'a> Reader<'a> {
+    /// A reader of a whole text.
+    pub fn new(bytes: &'a [u8]) -> Reader<'a>
+        ensures { left result ≡ tokens_of bytes.now }
+    {
+        let (token, rest) = split_token(bytes);
+        Reader { token, rest }
+    }
+
+    /// Takes the first token.
+    fn advance(&mut self)
+        ensures { left self.new ≡ behind self.old }
+    {
+        let (token, rest) = split_token(self.rest);
+        self.token = token;
+        self.rest = rest;
+    }
+
+    /// Whether this reserved word or sign comes next.
+    pub fn is_at(&self, text: &str) -> bool
+        requires { IsTrue (is_fixed text.now) }
+        ensures { result ≡ is_at text.now (left self.now) }
+    {
+        self.token == text.as_bytes()
+    }
+
+    /// Takes this reserved word or sign, where it comes next.
+    pub fn take(&mut self, text: &str) -> bool
+        requires { IsTrue (is_fixed text.now) }
+        ensures found { result ≡ is_at text.now (left self.old) }
+        ensures rest { left self.new ≡ (if result then tail (left self.old) else left self.old) }
+    {
+        let found = self.is_at(text);
+        if found {
+            self.advance();
+        }
+        found
+    }
+
+    /// Takes this reserved word or sign, which must come next.
+    pub fn expect(&mut self, text: &str) -> Result<(), ReadFault>
+        requires { IsTrue (is_fixed text.now) }
+        ensures { Goes result (left self.new) (after text.now (left self.old)) }
+    {
+        if self.take(text) {
+            Ok(())
+        } else {
+            Err(ReadFault::NotSubset)
+        }
+    }
+
+    /// Takes a name, which must come next.
+    pub fn name(&mut self, alloc: Global) -> Result<Name, ReadFault>
+        ensures { Gives result (left self.new) (name_at (left self.old)) }
+    {
+        if !is_name(self.token) {
+            return Err(ReadFault::NotSubset);
+        }
+        let name = Name::new(Text::from_ascii(self.token.to_vec(alloc)?));
+        self.advance();
+        Ok(name)
+    }
+
+    /// Takes a number, where one comes next.
+    pub fn try_number(&mut self) -> Option<u128>
+        ensures { Tries result (left self.old) (left self.new) (number_at (left self.old)) }
+    {
+        let number = number_of(self.token)?;
+        self.advance();
+        Some(number)
+    }
+
+    /// Takes a constant, where one comes next.
+    pub fn try_constant(&mut self) -> Option<Constant>
+        ensures { Tries result (left self.old) (left self.new) (constant_at (left self.old)) }
+    {
+        let constant = constant_of(self.token)?;
+        self.advance();
+        Some(constant)
+    }
+}
