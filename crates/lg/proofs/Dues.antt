@@ -1,25 +1,26 @@
 -- What is due for what a file holds.
-use Rattle.std.proofs.Common.{◌≡◌, ℕ, ◌<◌, ◌≤◌, Bool, true, false, List, length, Option, Some, None, Result, Ok, Err, Vec, Global, refl, sym, subst, arith, inl, inr}
+use Rattle.std.proofs.Common.{◌≡◌, ℕ, ◌<◌, ◌≤◌, Bool, true, false, List, length, Option, Some, None, Result, Ok, Err, Vec, Global, refl, sym, ap, subst, ◌∙◌, arith, inl, inr}
 use Rattle.std.specs.Prelude.{IfSome, nat_lt, MatchBool}
 use Rattle.std.proofs.lemmas.Bool.{le-ltb, lt-ltb}
 use Rattle.lg_io.specs.Fault.{HasRisen}
 use Rattle.lg_io.specs.Files.{IsReadAnswer}
 use Rattle.lg_io.specs.Files as files
-use Rattle.lg_io.specs.Sink.{Seen}
+use Rattle.lg_io.specs.Sink.{Seen, Said}
 use Rattle.lg_io.specs.declared.fault.FileFault.{FileFault}
 use Rattle.lg_io.specs.declared.fault.FileFault.TheVariants as file_fault
 use Rattle.lg_circ.specs.declared.read.TheConstants.{GREATEST_LENGTH}
 use Rattle.lg.specs.declared.status.Status.{Status}
 use Rattle.lg.specs.declared.status.Status.TheVariants as status
-use Rattle.lg.specs.declared.stop.Refusal.TheVariants.{Missing, TooLong, NotBuilt}
+use Rattle.lg.specs.declared.stop.Refusal.TheVariants.{Missing, TooLong, TooDeep, NotProject, NotBuilt}
 use Rattle.lg.specs.declared.stop.Stop.{Stop}
 use Rattle.lg.specs.declared.stop.Stop.TheVariants as stop
 use Rattle.lg.specs.Due.{Held, Due, Writes, Stops, IsModuleDue, IsExportDue, IsCommandDue, IsDue}
 use Rattle.lg.specs.Exported.{Makes, Exports, HoldsModule}
-use Rattle.lg.specs.Lines.{status_of}
-use Rattle.lg.specs.Outcome.{Ends, Follows, WrotePrefix}
+use Rattle.lg.specs.Lines.{status_of, line_of}
+use Rattle.lg.specs.Outcome.{Ends, Follows, WrotePrefix, IsLine, SaidLine}
 use Rattle.lg.specs.Stops.{file_stop}
 use Rattle.lg.specs.Words.{Command, Export, command_of}
+use Rattle.lg.proofs.OneDue.{of_file}
 
 -- bytes within the limit are judged by what they say
 within_limit : (file bytes : List ℕ) (due : Due) → length bytes ≤ GREATEST_LENGTH → IsModuleDue file bytes due → IsExportDue file (Some bytes) due
@@ -45,8 +46,14 @@ Exports-from_makes before after file bytes r made holds = by before.held r made 
     by told (Err (stop.Input Missing)) m h = absurd m
     by None (Err (stop.Input TooLong)) m h = tt
     by (Some held) (Err (stop.Input TooLong)) m h = absurd (omega arith)
+    by None (Err (stop.Input TooDeep)) m h = tt
+    by (Some held) (Err (stop.Input TooDeep)) m h = rw h.0 (within_limit file bytes (Stops (stop.Input TooDeep) file) m.0 (m.1, refl))
+    by None (Err (stop.Input NotProject)) m h = tt
+    by (Some held) (Err (stop.Input NotProject)) m h = rw h.0 (within_limit file bytes (Stops (stop.Input NotProject) file) m.0 (m.1, refl))
     by None (Err (stop.Input NotBuilt)) m h = tt
-    by (Some held) (Err (stop.Input NotBuilt)) m h = rw h.0 (within_limit file bytes (Stops (stop.Input NotBuilt) file) m.0 (m.1, refl, refl))
+    by (Some held) (Err (stop.Input NotBuilt)) m h = rw h.0 (within_limit file bytes (Stops (stop.Input NotBuilt) file) m.0 (m.1, refl))
+    by None (Err (stop.NotAccepted reason)) m h = (m.1, tt)
+    by (Some held) (Err (stop.NotAccepted reason)) m h = (m.1, rw h.0 (within_limit file bytes (Stops (stop.NotAccepted reason) file) m.0 (m.2, refl)))
     by told (Err stop.Memory) m h = tt
     by told (Err stop.Usage) m h = absurd m
     by told (Err stop.ReadFault) m h = absurd m
@@ -66,24 +73,17 @@ Exports-from_fault before after file fault answer rose = by before.held fault an
     by told file_fault.Failed a r = r refl
     by told file_fault.Memory a r = tt
 
+-- two things that are due for a file are the same
+same_due : (file : List ℕ) (found : Option (List ℕ)) (a b : Due) → IsExportDue file found a → IsExportDue file found b → a ≡ b
+same_due file found a b h k = let one = of_file file found in one.2 a h ∙ sym (one.2 b k)
+
 -- a text and a stop are not both due
 not_both : (file : List ℕ) (found : Option (List ℕ)) (s : Status) (text : List ℕ) (why : Stop) (about : List ℕ) → IsExportDue file found (Writes s text) → IsExportDue file found (Stops why about) → ⊥
-not_both file None s text why about h k = absurd cc
-not_both file (Some bytes) s text why about h k = by_limit (nat_lt GREATEST_LENGTH (length bytes)) h k
-  where
-    by_limit : (b : Bool) → MatchBool b (◌≡◌ {A = Due} (Writes s text) (Stops (stop.Input TooLong) file)) (IsModuleDue file bytes (Writes s text))
-        → MatchBool b (◌≡◌ {A = Due} (Stops why about) (Stops (stop.Input TooLong) file)) (IsModuleDue file bytes (Stops why about)) → ⊥
-    by_limit true h k = absurd cc
-    by_limit false h k = k.0 text h.1
+not_both file found s text why about h k = let e = same_due file found (Writes s text) (Stops why about) h k in absurd cc
 
--- each stop that is due for a file is an input's
-stop_is_input : (file : List ℕ) (found : Option (List ℕ)) (why : Stop) (about : List ℕ) → IsExportDue file found (Stops why about) → status_of why ≡ status.Input
-stop_is_input file None why about h = let e : why ≡ stop.Input Missing = cc in rw e refl
-stop_is_input file (Some bytes) why about h = by_limit (nat_lt GREATEST_LENGTH (length bytes)) h
-  where
-    by_limit : (b : Bool) → MatchBool b (◌≡◌ {A = Due} (Stops why about) (Stops (stop.Input TooLong) file)) (IsModuleDue file bytes (Stops why about)) → status_of why ≡ status.Input
-    by_limit true h = let e : why ≡ stop.Input TooLong = cc in rw e refl
-    by_limit false h = rw h.1 refl
+-- nor two stops
+same_stop : (file : List ℕ) (found : Option (List ℕ)) (a b : Stop) (about other : List ℕ) → IsExportDue file found (Stops a about) → IsExportDue file found (Stops b other) → a ≡ b
+same_stop file found a b about other h k = let e = same_due file found (Stops a about) (Stops b other) h k in cc
 
 -- each text that is due for a file is written with `Done`
 text_is_done : (file : List ℕ) (found : Option (List ℕ)) (s : Status) (text : List ℕ) → IsExportDue file found (Writes s text) → s ≡ status.Done
@@ -112,6 +112,7 @@ complete_written (Some held) words file text s files_before files_after before a
     by (Stops why about) status.WriteFault ends k = absurd (not_both file (held file) status.Done text why about (text_is_due held file text h) k)
     by due status.Usage ends k = absurd ends
     by due status.Input ends k = absurd ends
+    by due status.NotAccepted ends k = absurd ends
     by due status.ReadFault ends k = absurd ends
     by due status.Memory ends k = absurd ends
 
@@ -136,7 +137,9 @@ complete_stopped words file files_before files_after before after why s asked e 
     stopped_at : (held : Held) (due : Due) (why : Stop) → Exports (record { held = Some held; faults = files_before.faults }) files_after file (Err why) → IsExportDue file (held file) due
         → Follows due (status_of why) files_before files_after before after
     stopped_at held (Writes d t) (stop.Input refusal) w k = absurd (not_both file (held file) d t (stop.Input refusal) file k w)
-    stopped_at held (Stops due about) (stop.Input refusal) w k = inl (sym (stop_is_input file (held file) due about k))
+    stopped_at held (Stops due about) (stop.Input refusal) w k = inl (ap status_of (same_stop file (held file) (stop.Input refusal) due file about w k))
+    stopped_at held (Writes d t) (stop.NotAccepted reason) w k = absurd (not_both file (held file) d t (stop.NotAccepted reason) file k w.1)
+    stopped_at held (Stops due about) (stop.NotAccepted reason) w k = inl (ap status_of (same_stop file (held file) (stop.NotAccepted reason) due file about w.1 k))
     stopped_at held (Writes d t) stop.ReadFault w k = inr (inr (inl w))
     stopped_at held (Stops due about) stop.ReadFault w k = inr (inr w)
     stopped_at held (Writes d t) stop.Memory w k = inr (inl refl)
@@ -147,3 +150,19 @@ complete_stopped words file files_before files_after before after why s asked e 
     of : (told : Option Held) → Exports (record { held = told; faults = files_before.faults }) files_after file (Err why) → IfSome told (λ held. (due : Due) → IsDue words held due → Follows due s files_before files_after before after)
     of None w = tt
     of (Some held) w = λ due is_due. rw e (stopped_at held due why w (subst (λ (c : Option Command). IsCommandDue c held due) asked is_due))
+
+-- the line of a stop is that of the stop that is due
+pub said_stopped : (words : List (List ℕ)) (file : List ℕ) (files_before files_after : files.Seen) (before after : Seen) (why : Stop) (s : Status) → command_of words ≡ Some (Export file) → s ≡ status_of why
+    → Exports files_before files_after file (Err why) → Said before after (line_of why file) → SaidLine words files_before.held s before after
+said_stopped words file files_before files_after before after why s asked e exports said =
+    record { line = line_of why file; is_line = rw e (of files_before.held why exports); said = said }
+  where
+    of : (told : Option Held) (why : Stop) → Exports (record { held = told; faults = files_before.faults }) files_after file (Err why) → IsLine words told (status_of why) (line_of why file)
+    of (Some held) (stop.Input refusal) w = (stop.Input refusal, file, subst (λ (c : Option Command). IsCommandDue c held (Stops (stop.Input refusal) file)) (sym asked) w, refl, refl)
+    of None (stop.Input refusal) w = (file, refusal, asked, refl)
+    of (Some held) (stop.NotAccepted reason) w = (stop.NotAccepted reason, file, subst (λ (c : Option Command). IsCommandDue c held (Stops (stop.NotAccepted reason) file)) (sym asked) w.1, refl, refl)
+    of None (stop.NotAccepted reason) w = (file, reason, w.0, asked, refl)
+    of told stop.ReadFault w = (file, asked, refl)
+    of told stop.Memory w = refl
+    of told stop.Usage w = absurd w
+    of told stop.WriteFault w = absurd w

@@ -1,16 +1,16 @@
--- A sheet has one netlist, so that netlist alone decides whether the circuit is built.
-use Rattle.std.proofs.Common.{◌≡◌, false, List, [], ◌∷◌, length, get_or, Some, sym, ap, subst, ◌∙◌, arith}
+-- A sheet has one netlist, which has no clock.
+use Rattle.std.proofs.Common.{◌≡◌, true, List, [], ◌∷◌, length, get_or, Some, refl, sym, ap, subst, ◌∙◌, arith}
 use Rattle.std.proofs.lemmas.Option.{same_Some}
 use Rattle.std.specs.List.{zip}
-use Rattle.std.proofs.lemmas.Bool.{false≢true}
+use Rattle.lg_circ.specs.declared.project.Comp.{Comp}
 use Rattle.lg_circ.specs.declared.project.Sheet.{Sheet}
 use Rattle.lg_circ.specs.declared.project.Project.{Project}
 use Rattle.lg_netlist.specs.declared.netlist.Netlist.{Netlist}
-use Rattle.lg_netlist.specs.OneGate.{is_one_gate}
+use Rattle.lg_netlist.specs.OneGate.{has_no_clock}
 use Rattle.lg_flatten.specs.declared.role.Role.{Role}
 use Rattle.lg_flatten.specs.Uses.{roles_of}
 use Rattle.lg_flatten.specs.Flat.{IsNetlistOf}
-use Rattle.lg.specs.OneSheet.{IsBuilt, IsNotBuilt}
+use Rattle.lg.specs.OneSheet.{IsBuilt}
 
 pub head_is : (a b : Sheet) → a ∷ [] ≡ b ∷ [] → a ≡ b
 head_is a b e = cc
@@ -30,8 +30,6 @@ one_built project sheet roles n one known only other built =
     let moved : IsNetlistOf sheet (zip sheet.comps built.roles) other = subst (λ (s : Sheet). IsNetlistOf s (zip s.comps built.roles) other) same built.netlist in
     only other (subst (λ (rs : List Role). IsNetlistOf sheet (zip sheet.comps rs) other) as_roles moved)
 
--- where the one netlist of the sheet is no one-gate circuit, the project has none
-pub not_one_gate : (project : Project) (sheet : Sheet) (roles : List Role) (n : Netlist) → project.sheets ≡ sheet ∷ [] → roles_of project.libs sheet.comps ≡ Some roles
-    → ((other : Netlist) → IsNetlistOf sheet (zip sheet.comps roles) other → other ≡ n) → is_one_gate n ≡ false → IsNotBuilt project
-not_one_gate project sheet roles n one known only none other built =
-    false≢true (sym none ∙ (ap is_one_gate (sym (one_built project sheet roles n one known only other built)) ∙ built.one_gate))
+-- no sheet of pins and gates has a clock
+pub clockless : (sheet : Sheet) (uses : List (Comp × Role)) (n : Netlist) → IsNetlistOf sheet uses n → has_no_clock n ≡ true
+clockless sheet uses n is = rw (is.no_clock, is.no_clock_pin) refl

@@ -1,8 +1,10 @@
 -- What a run leaves: its status, what the output took, and its line.
-use Rattle.std.specs.Prelude.{◌≡◌, ℕ, List, [], Option, Some, None, ◌⊎◌}
+use Rattle.std.specs.Prelude.{◌≡◌, ◌≢◌, ℕ, List, [], Option, Some, None, ◌⊎◌}
 use Rattle.lg_io.specs.Fault.{HasRisen}
 use Rattle.lg_io.specs.Files as files
 use Rattle.lg_io.specs.Sink.{Seen, Took, TookPrefix, Said}
+use Rattle.lg_netlist.specs.declared.acceptance.NotAccepted.{NotAccepted}
+use Rattle.lg_netlist.specs.declared.acceptance.NotAccepted.TheVariants as not_accepted
 use Rattle.lg.specs.declared.status.Status.{Status}
 use Rattle.lg.specs.declared.status.Status.TheVariants as status
 use Rattle.lg.specs.declared.stop.Refusal.{Refusal}
@@ -17,6 +19,7 @@ abbrev pub code_of : Status → ℕ
 code_of status.Done = 0
 code_of status.Usage = 2
 code_of status.Input = 3
+code_of status.NotAccepted = 4
 code_of status.ReadFault = 5
 code_of status.WriteFault = 6
 code_of status.Memory = 9
@@ -56,15 +59,18 @@ KeepsOutput before after status.Done = Unit {0}
 KeepsOutput before after status.WriteFault = Unit {0}
 KeepsOutput before after status.Usage = after ≡ before
 KeepsOutput before after status.Input = after ≡ before
+KeepsOutput before after status.NotAccepted = after ≡ before
 KeepsOutput before after status.ReadFault = after ≡ before
 KeepsOutput before after status.Memory = after ≡ before
 
--- the stop after which a run ends with this line; for an input it is the one that is due, or where the files tell nothing some refusal
+-- the stop after which a run ends with this line; for a refusal it is the one that is due, or where the files tell nothing some refusal
 abbrev pub IsLine : List (List ℕ) → Option Held → Status → List ℕ → Type 0
 IsLine words told status.Done line = line ≡ []
 IsLine words told status.Usage line = line ≡ line_of stop.Usage []
 IsLine words (Some held) status.Input line = (stop : Stop) × (file : List ℕ) × IsDue words held (Stops stop file) × (status_of stop ≡ status.Input) × (line ≡ line_of stop file)
 IsLine words None status.Input line = (file : List ℕ) × (refusal : Refusal) × (command_of words ≡ Some (Export file)) × (line ≡ line_of (stop.Input refusal) file)
+IsLine words (Some held) status.NotAccepted line = (stop : Stop) × (file : List ℕ) × IsDue words held (Stops stop file) × (status_of stop ≡ status.NotAccepted) × (line ≡ line_of stop file)
+IsLine words None status.NotAccepted line = (file : List ℕ) × (refusal : NotAccepted) × (refusal ≢ not_accepted.Memory) × (command_of words ≡ Some (Export file)) × (line ≡ line_of (stop.NotAccepted refusal) file)
 IsLine words told status.ReadFault line = (file : List ℕ) × (command_of words ≡ Some (Export file)) × (line ≡ line_of stop.ReadFault file)
 IsLine words told status.WriteFault line = line ≡ line_of stop.WriteFault []
 IsLine words told status.Memory line = line ≡ line_of stop.Memory []

@@ -30,8 +30,9 @@ pub fn run<F: Files, O: Sink, E: Sink>(
     // Where the files tell what they hold, the output has taken the due text and nothing else ..
     ensures done { result ≡ Status.Done → IfSome (F.seen files.old).held
         (λ held. WroteDue (words_of words.now) held result (O.seen out.old) (O.seen out.new)) }
-    // .. which is that of a module whose outputs are the static values on each row of defined inputs; and each list of such
-    // rows has exactly one session table, in which each row settles in at most one instant, on the module's outputs.
+    // .. which is that of a module whose outputs, of a one-gate circuit, are the static values on each row of defined
+    // inputs; and each list of such rows has exactly one session table, in which each row settles in at most one instant,
+    // on the module's outputs.
     ensures agrees { result ≡ Status.Done → IfSome (F.seen files.old).held
         (λ held. WroteAgreed (words_of words.now) held (O.seen out.old) (O.seen out.new)) }
 
@@ -51,7 +52,7 @@ pub fn run<F: Files, O: Sink, E: Sink>(
         (λ held. (due : Due) → IsDue (words_of words.now) held due →
         Follows due result (F.seen files.old) (F.seen files.new) (O.seen out.old) (O.seen out.new)) }
 
-    // The status's line was said; for an input, that of the stop that is due.
+    // The status's line was said; for an input and for a circuit that is not accepted, that of the stop that is due.
     ensures said { SaidLine (words_of words.now) (F.seen files.old).held result (E.seen err.old) (E.seen err.new) }
 
     ensures same_files { (F.seen files.new).held ≡ (F.seen files.old).held }

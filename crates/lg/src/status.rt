@@ -12,6 +12,8 @@ pub enum Status {
     Usage,
     /// A file is missing, too long or refused.
     Input,
+    /// The circuit cannot be exported.
+    NotAccepted,
     /// A file could not be read.
     ReadFault,
     /// The output could not be written.
@@ -29,6 +31,7 @@ impl Status {
             Status::Done => 0,
             Status::Usage => 2,
             Status::Input => 3,
+            Status::NotAccepted => 4,
             Status::ReadFault => 5,
             Status::WriteFault => 6,
             Status::Memory => 9,

@@ -4,6 +4,7 @@ ghost use Rattle.std.specs.Prelude.{◌<◌};
 
 use crate::run::run;
 use crate::status::Status;
+use lg_circ::GREATEST_LENGTH;
 use lg_io::{MemFiles, MemSink};
 use std::alloc::{AllocError, Global};
 use std::test::Fail;
@@ -41,7 +42,15 @@ const UNREAD: &str =
 const TWO_GATES: &str =
     "module c_main(\n  input wire i_A,\n  input wire i_B,\n  output wire o_X,\n  output wire o_Y\n);\n  wire x0_0;\n  wire x0_1;\n  wire w0_0;\n  wire x1_0;\n  wire x1_1;\n  wire w1_0;\n  assign x0_0 = i_A;\n  assign x0_1 = i_B;\n  assign w0_0 = (x0_0 | x0_1);\n  assign x1_0 = i_A;\n  assign x1_1 = i_B;\n  assign w1_0 = (x1_0 & x1_1);\n  assign o_X = w0_0;\n  assign o_Y = w1_0;\nendmodule\n";
 
+const CHAIN: &str =
+    "module c_main(\n  input wire i_A,\n  output wire o_Z\n);\n  wire x0_0;\n  wire w0_0;\n  wire x1_0;\n  wire w1_0;\n  assign x0_0 = w1_0;\n  assign w0_0 = (~x0_0);\n  assign x1_0 = i_A;\n  assign w1_0 = (~x1_0);\n  assign o_Z = w0_0;\nendmodule\n";
+
+const HALF_AND: &str =
+    "module c_main(\n  input wire i_A,\n  output wire o_Y\n);\n  wire x0_0;\n  wire w0_0;\n  assign x0_0 = i_A;\n  assign w0_0 = x0_0;\n  assign o_Y = w0_0;\nendmodule\n";
+
 const NOT_BUILT: &str = "lg: input: p.circ: NotBuilt\n";
+
+const NOT_PROJECT: &str = "lg: input: p.circ: NotProject\n";
 
 const USAGE: &str = "lg: usage: lg VERB [OPTIONS] ARGUMENTS\n";
 
@@ -215,37 +224,208 @@ fn pins_are_named_by_their_labels(rt: HostRuntime) -> Result<(), Fail> {
 #[test]
 fn other_sheets_are_not_built(rt: HostRuntime) -> Result<(), Fail> {
     let alloc = rt.alloc();
-    let second = gate(alloc, "NOT", "30", "160,60")?;
-    let third = input(alloc, "B", "100,60")?;
     let skew = wire(alloc, "0,0", "10,20")?;
     let odd = gate(alloc, "NOT", "25", "130,60")?;
     let nand = gate(alloc, "NAND", "50", "130,60")?;
-    let and = gate(alloc, "AND", "30", "130,60")?;
     let wide = "<comp lib=\"0\" loc=\"(0,0)\" name=\"Pin\"><a name=\"width\" val=\"1\"/></comp>";
     let table = [
-        // A gate that reads a gate.
-        format!(in alloc; "{A}{NOT}{second}{Y}")?,
-        // An output pin that nothing drives.
-        format!(in alloc; "{Y}")?,
-        // A gate's input to which nothing is attached.
-        format!(in alloc; "{A}{second}")?,
-        format!(in alloc; "{A}{and}{Y}")?,
-        // Two input pins at one point.
-        format!(in alloc; "{A}{third}")?,
-        // A gate's output on an input pin.
-        format!(in alloc; "{NOT}{A}{third}")?,
-        // Components, wires and texts that are not built.
         format!(in alloc; "{A}{skew}")?,
         format!(in alloc; "{A}{odd}{Y}")?,
         format!(in alloc; "{nand}")?,
         format!(in alloc; "{wide}")?,
-        format!(in alloc; "<!-- none -->{A}{NOT}{Y}")?,
+        format!(in alloc; "<comp loc=\"(0,0)\" name=\"main\"/>")?,
     ];
     for sheet in &table {
         let (ended, out, err) = exported(alloc, sheet.as_str())?;
         assert_eq!(rt; ended, Status::Input, "{sheet}");
         assert!(rt; out.taken().is_empty());
         assert_eq!(rt; err.taken(), NOT_BUILT.as_bytes(), "{sheet}");
+    }
+    Ok(())
+}
+
+#[test]
+fn gates_read_gates(rt: HostRuntime) -> Result<(), Fail> {
+    let alloc = rt.alloc();
+    let second = gate(alloc, "NOT", "30", "160,60")?;
+    let and = gate(alloc, "AND", "30", "130,70")?;
+    let z = output(alloc, "Z", "160,60")?;
+    let end = output(alloc, "Y", "130,70")?;
+    let table = [
+        (format!(in alloc; "{second}{NOT}{A}{z}")?, CHAIN),
+        // Nothing is attached to the gate's second input.
+        (format!(in alloc; "{A}{and}{end}")?, HALF_AND),
+    ];
+    for (sheet, module) in &table {
+        let (ended, out, err) = exported(alloc, sheet.as_str())?;
+        assert_eq!(rt; ended, Status::Done, "{sheet}");
+        assert_eq!(rt; out.taken(), module.as_bytes(), "{sheet}");
+        assert!(rt; err.taken().is_empty());
+    }
+    Ok(())
+}
+
+// Whether a sheet is not accepted for this reason, with nothing written.
+fn is_refused(alloc: Global, sheet: &str, reason: &str) -> Result<bool, Fail> {
+    let (ended, out, err) = exported(alloc, sheet)?;
+    let line = format!(in alloc; "lg: not accepted: {reason}\n")?;
+    let said = err.taken() == line.as_bytes();
+    Ok(ended == Status::NotAccepted && out.taken().is_empty() && said)
+}
+
+#[test]
+fn nets_with_two_drivers_are_not_accepted(rt: HostRuntime) -> Result<(), Fail> {
+    let alloc = rt.alloc();
+    let below = gate(alloc, "NOT", "30", "130,90")?;
+    let behind = input(alloc, "B", "130,60")?;
+    let here = input(alloc, "B", "100,60")?;
+    let wires = format!(in alloc;
+        "{}{}",
+        wire(alloc, "100,60", "100,90")?,
+        wire(alloc, "130,60", "130,90")?
+    )?;
+    let table = [
+        (
+            format!(in alloc; "{A}{NOT}{below}{wires}")?,
+            "ManyDrivers 1 main(130,60) NOT Gate main(130,90) NOT Gate",
+        ),
+        (
+            format!(in alloc; "{behind}{A}{NOT}")?,
+            "ManyDrivers 0 main(130,60) NOT Gate main(130,60) Pin",
+        ),
+        (
+            format!(in alloc; "{A}{here}")?,
+            "ManyDrivers 0 main(100,60) Pin main(100,60) Pin",
+        ),
+    ];
+    for (sheet, reason) in &table {
+        assert!(rt; is_refused(alloc, sheet.as_str(), reason)?, "{sheet}");
+    }
+    Ok(())
+}
+
+#[test]
+fn inputs_that_nothing_drives_are_not_accepted(rt: HostRuntime) -> Result<(), Fail> {
+    let alloc = rt.alloc();
+    let behind = gate(alloc, "NOT", "30", "160,60")?;
+    let and = gate(alloc, "AND", "30", "130,60")?;
+    let loose = wire(alloc, "100,60", "100,90")?;
+    let table = [
+        (
+            format!(in alloc; "{A}{behind}")?,
+            "Undriven main(160,60) NOT Gate in",
+        ),
+        (
+            format!(in alloc; "{A}{and}{Y}")?,
+            "Undriven main(130,60) AND Gate in0",
+        ),
+        (
+            format!(in alloc; "{Y}{NOT}{loose}")?,
+            "Undriven main(130,60) NOT Gate in",
+        ),
+        (format!(in alloc; "{Y}")?, "Undriven main(130,60) Pin p"),
+    ];
+    for (sheet, reason) in &table {
+        assert!(rt; is_refused(alloc, sheet.as_str(), reason)?, "{sheet}");
+    }
+    Ok(())
+}
+
+#[test]
+fn the_first_condition_that_holds_is_told(rt: HostRuntime) -> Result<(), Fail> {
+    let alloc = rt.alloc();
+    let below = gate(alloc, "NOT", "30", "130,90")?;
+    let ring = format!(in alloc;
+        "{NOT}{}{}{}",
+        wire(alloc, "130,60", "130,40")?,
+        wire(alloc, "100,40", "130,40")?,
+        wire(alloc, "100,40", "100,60")?
+    )?;
+    let table = [
+        (format!(in alloc; "{ring}")?, "Cycle main(130,60) NOT Gate"),
+        (
+            format!(in alloc; "{ring}{below}")?,
+            "Undriven main(130,90) NOT Gate in",
+        ),
+        (
+            format!(in alloc; "{ring}{A}{below}")?,
+            "ManyDrivers 0 main(130,60) NOT Gate main(100,60) Pin",
+        ),
+    ];
+    for (sheet, reason) in &table {
+        assert!(rt; is_refused(alloc, sheet.as_str(), reason)?, "{sheet}");
+    }
+    Ok(())
+}
+
+#[test]
+fn the_greatest_length_is_eight_mebibytes(rt: HostRuntime) {
+    assert_eq!(rt; GREATEST_LENGTH, 8_388_608);
+}
+
+#[test]
+fn projects_of_any_writing_are_read(rt: HostRuntime) -> Result<(), Fail> {
+    let alloc = rt.alloc();
+    let opens =
+        "<options><a name=\"gateUndefined\" val='ignore'></a></options><main name=\"m&#97;in\"></main>";
+    let sheet = format!(in alloc; "{opens}<circuit name='main'><!-- - -->{A}{NOT}{Y}</circuit>")?;
+    let text = format!(in alloc;
+        "<?xml version=\"1.0\" encoding=\"UTF-8\"?>\r\n<!--\u{00e9}-->{HEAD}{sheet}text</project>\n"
+    )?;
+    let mut files = one_file(alloc, text.as_str(), Vec::new(alloc))?;
+    let mut out = sink(alloc, 64, Vec::new(alloc))?;
+    let mut err = sink(alloc, 64, Vec::new(alloc))?;
+    let words = words(alloc, &["export", "p.circ"])?;
+    let ended = run(alloc, words.as_slice(), &mut files, &mut out, &mut err);
+    assert_eq!(rt; ended, Status::Done);
+    assert_eq!(rt; out.taken(), MODULE.as_bytes());
+    Ok(())
+}
+
+#[test]
+fn projects_that_open_with_other_sheets_are_not_built(rt: HostRuntime) -> Result<(), Fail> {
+    let alloc = rt.alloc();
+    let table = [
+        "<main name=\"other\"/>",
+        "<options><a name=\"gateUndefined\" val=\"error\"/></options>",
+        "<circuit name=\"other\"/>",
+    ];
+    for row in table {
+        let text = format!(in alloc; "{HEAD}{row}<circuit name=\"main\"/></project>")?;
+        let mut files = one_file(alloc, text.as_str(), Vec::new(alloc))?;
+        let mut out = sink(alloc, 64, Vec::new(alloc))?;
+        let mut err = sink(alloc, 64, Vec::new(alloc))?;
+        let words = words(alloc, &["export", "p.circ"])?;
+        let ended = run(alloc, words.as_slice(), &mut files, &mut out, &mut err);
+        assert_eq!(rt; ended, Status::Input, "{row}");
+        assert!(rt; out.taken().is_empty());
+        assert_eq!(rt; err.taken(), NOT_BUILT.as_bytes(), "{row}");
+    }
+    Ok(())
+}
+
+#[test]
+fn texts_too_deep_or_of_no_project_are_refused(rt: HostRuntime) -> Result<(), Fail> {
+    let alloc = rt.alloc();
+    let deep = "<a>".repeat(alloc, 64)?;
+    let ends = "</a>".repeat(alloc, 64)?;
+    let table = [
+        (
+            format!(in alloc; "<project>{deep}{ends}</project>")?,
+            "lg: input: p.circ: TooDeep\n",
+        ),
+        (format!(in alloc; "<project>{deep}</project>")?, NOT_PROJECT),
+        (format!(in alloc; "")?, NOT_PROJECT),
+    ];
+    for (text, line) in &table {
+        let mut files = one_file(alloc, text.as_str(), Vec::new(alloc))?;
+        let mut out = sink(alloc, 64, Vec::new(alloc))?;
+        let mut err = sink(alloc, 64, Vec::new(alloc))?;
+        let words = words(alloc, &["export", "p.circ"])?;
+        let ended = run(alloc, words.as_slice(), &mut files, &mut out, &mut err);
+        assert_eq!(rt; ended, Status::Input);
+        assert!(rt; out.taken().is_empty());
+        assert_eq!(rt; err.taken(), line.as_bytes());
     }
     Ok(())
 }

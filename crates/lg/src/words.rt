@@ -3,8 +3,8 @@
 ghost use Rattle.std.specs.Prelude.{◌≡◌};
 ghost use Rattle.lg.specs.Words.{words_of, command_of, is_positional, asks_export};
 
-/// The project file whose module the words ask for, or none where they are no command: `export`, and one further word
-/// that is not empty and does not begin with `-`.
+/// The project file whose module the words ask for: the second of the words `export FILE`, where it could be a file's
+/// name and no option. None for all other words.
 pub fn file_to_export(words: &[String]) -> Option<&str>
     ensures { asks_export result ≡ command_of (words_of words.now) }
 {

@@ -1,56 +1,68 @@
 -- How many components and wires a text can have: no more than it has bytes.
-use Rattle.std.proofs.Common.{◌≡◌, ℕ, zero, suc, ◌+◌, ◌≤◌, Bool, true, false, cond, List, [], ◌∷◌, length, Option, Some, Result, Ok, Err, refl, sym, ap, subst, ◌∙◌, arith, inl, inr}
-use Rattle.std.specs.Prelude.{codes, filter, IfOk}
-use Rattle.std.specs.List.{All}
+use Rattle.std.proofs.Common.{◌≡◌, ℕ, zero, suc, ◌+◌, ◌≤◌, Bool, true, false, cond, List, [], ◌∷◌, ◌++◌, length, Option, Some, refl, sym, ap, subst, ◌∙◌, arith, inl, inr}
+use Rattle.std.specs.Prelude.{codes, filter}
+use Rattle.std.specs.List.{All, flat_map, AllByRecursion}
 use Rattle.std.specs.Str.{bytes_eq}
 use Rattle.std.proofs.lemmas.Bool.{cond-true, cond-false}
 use Rattle.std.proofs.lemmas.List.{length-append}
 use Rattle.std.proofs.lemmas.List.Elements.{All-nil, All-cons}
 use Rattle.std.proofs.lemmas.Option.{same_Some}
 use Rattle.lg_circ.specs.declared.element.Element.{Element}
-use Rattle.lg_circ.specs.declared.fault.CircFault.{CircFault}
 use Rattle.lg_circ.specs.declared.project.Comp.{Comp}
 use Rattle.lg_circ.specs.declared.project.Wire.{Wire}
 use Rattle.lg_circ.specs.declared.project.Sheet.{Sheet}
 use Rattle.lg_circ.specs.declared.project.Project.{Project}
 use Rattle.lg_circ.specs.Pairs.{value_under}
 use Rattle.lg_circ.specs.Tree.{name_of, children_of, is_named, children_named, child_named, attribute}
-use Rattle.lg_circ.specs.Grammar.{SpellsContent, SpellsElement, greatest_level}
+use Rattle.lg_circ.specs.Grammar.{Piece, own, reference, comment, element, elements_of, spelling_of, IsInElement, SpellsElement, Spells}
 use Rattle.lg_circ.specs.Meaning.{◌>>=◌, each, lib_of, comp_of, wire_of, sheet_of, options_of, is_error, limit_of}
-use Rattle.lg_circ.specs.Plain.{IsPlainProject}
-use Rattle.lg_circ.proofs.Marks.{bind_some}
-use Rattle.lg_circ.proofs.Elements.{same_bytes}
+use Rattle.lg_circ.specs.Project.{SaysProject}
+use Rattle.lg_circ.proofs.Marks.{bind_some, same_bytes}
+use Rattle.lg_circ.proofs.Made.{all_weaker}
+use Rattle.lg_circ.proofs.Elements.{piece_any, spells_begins}
 
 -- an element has a byte
-element_long : (levels : ℕ) (e : Element) (bytes : List ℕ) → SpellsElement levels e bytes → 1 ≤ length bytes
-unfolding SpellsElement
-element_long zero e bytes s = absurd s
-element_long (suc levels) e bytes s = elim s.4 [ inl a ↦ omega (arith, ap (λ (t : List ℕ). length t) a.spelled) | inr b ↦ omega (arith, ap (λ (t : List ℕ). length t) b.spelled) ]
+element_long : (e : Element) (b : List ℕ) → Spells e b → 1 ≤ length b
+element_long e b s = let o = spells_begins e b s in omega (arith, ap (λ (t : List ℕ). length t) o.2)
 
 -- as many elements as bytes fit inside
-content_fits : (levels : ℕ) (text : List ℕ) (children : List Element) (bytes : List ℕ) → SpellsContent (SpellsElement levels) text children bytes → length children ≤ length bytes
-content_fits levels text [] bytes s = omega arith
-content_fits levels text (child ∷ others) bytes s =
-    let first = element_long levels child s.2 s.5 in
-    let more = content_fits levels s.1 others s.3 s.6 in
-    let e = simp length-append at (ap (λ (t : List ℕ). length t) s.8) in
-    omega (arith, first, more, e)
+content_fits : (ps : List Piece) → AllByRecursion (IsInElement Spells) ps → length (flat_map elements_of ps) ≤ length (flat_map spelling_of ps)
+content_fits [] all = omega arith
+content_fits (own c ∷ ps) all = let more = content_fits ps all.1 in omega (arith, more)
+content_fits (reference name ∷ ps) all = let more = content_fits ps all.1 in let long = length-append (codes "&" ++ name ++ codes ";") (flat_map spelling_of ps) in omega (arith, more, long)
+content_fits (comment inside ∷ ps) all = let more = content_fits ps all.1 in let long = length-append (codes "<!--" ++ inside ++ codes "-->") (flat_map spelling_of ps) in omega (arith, more, long)
+content_fits (element e b ∷ ps) all =
+    let first = element_long e b all.0 in
+    let more = content_fits ps all.1 in
+    omega (arith, first, more, length-append b (flat_map spelling_of ps))
 
--- an element with its inside
-record HasInside (levels : ℕ) (e : Element) (bytes : List ℕ) : Type 0 where
-  pub text : List ℕ
-  pub content : List ℕ
-  pub inside : SpellsContent (SpellsElement levels) text (children_of e) content
-  pub fits : length content ≤ length bytes
+-- an element with what stands inside
+record HasInside (e : Element) (bytes : List ℕ) : Type 0 where
+  pub pieces : List Piece
+  pub allowed : AllByRecursion (IsInElement Spells) pieces
+  pub are : children_of e ≡ flat_map elements_of pieces
+  pub fits : length (flat_map spelling_of pieces) ≤ length bytes
 
-inside_of : (levels : ℕ) (e : Element) (bytes : List ℕ) → SpellsElement levels e bytes → (below : ℕ) × HasInside below e bytes
+inside_of : (e : Element) (bytes : List ℕ) → Spells e bytes → HasInside e bytes
 unfolding SpellsElement
-inside_of zero e bytes s = absurd s
-inside_of (suc levels) e bytes s =
-    elim s.4 [
-      | inl a ↦ (levels, record { text = []; content = []; inside = subst (λ (es : List Element). SpellsContent (SpellsElement levels) [] es []) (sym a.no_children) (refl, refl); fits = omega arith })
-      | inr b ↦ (levels, record { text = _; content = b.content; inside = b.inside; fits = let e = simp length-append at (ap (λ (t : List ℕ). length t) b.spelled) in omega (arith, e) })
-    ]
+inside_of e bytes s = by_level s.0 s.1
+  where
+    by_level : (l : ℕ) → SpellsElement l e bytes → HasInside e bytes
+    by_level zero s = absurd s
+    by_level (suc l) s =
+        elim s.4 as (λ _. HasInside e bytes) [
+          | inl a ↦ record { pieces = []; allowed = tt; are = a.no_children; fits = omega arith }
+          | inr b ↦
+              let m = b.inside in
+              let whole = simp length-append at (ap (λ (t : List ℕ). length t) b.spelled) in
+              let long : length b.content ≡ length (flat_map spelling_of m.pieces) = ap (λ (t : List ℕ). length t) m.spelled in
+              record {
+                pieces = m.pieces;
+                allowed = all_weaker (IsInElement (SpellsElement l)) (IsInElement Spells) (piece_any l) m.pieces m.allowed;
+                are = m.elements_are;
+                fits = omega (arith, whole, long);
+              }
+        ]
 
 each_fits : {A B : Type 0} (f : A → Option B) (xs : List A) (ys : List B) → each f xs ≡ Some ys → length ys ≡ length xs
 each_fits f [] ys e = sym (ap length (same_Some [] ys e))
@@ -88,32 +100,38 @@ sheet_few e sheet h =
     let both = two_names (codes "comp") (codes "wire") refl (children_of e) in
     subst (λ (s : Sheet). IsFew (length (children_of e)) s) (same_Some (made a.0 b.0 c.0) sheet c.2) (omega (arith, comps, wires, both))
 
-circuit_few : (levels : ℕ) (e : Element) (bytes : List ℕ) (sheet : Sheet) → SpellsElement levels e bytes → sheet_of e ≡ Some sheet → IsFew (length bytes) sheet
-circuit_few levels e bytes sheet s h =
-    let i = inside_of levels e bytes s in
-    omega (arith, sheet_few e sheet h, content_fits i.0 i.1.text (children_of e) i.1.content i.1.inside, i.1.fits)
+circuit_few : (e : Element) (bytes : List ℕ) (sheet : Sheet) → Spells e bytes → sheet_of e ≡ Some sheet → IsFew (length bytes) sheet
+circuit_few e bytes sheet s h =
+    let i = inside_of e bytes s in
+    let same : length (children_of e) ≡ length (flat_map elements_of i.pieces) = ap (λ (es : List Element). length es) i.are in
+    omega (arith, sheet_few e sheet h, same, content_fits i.pieces i.allowed, i.fits)
 
 -- what is so of each sheet after one element, is so of each from it on
 more_few : (most : ℕ) (e : Element) (es : List Element) (sheets : List Sheet) (b : Bool) → is_named (codes "circuit") e ≡ b → ((sheet : Sheet) → sheet_of e ≡ Some sheet → IsFew most sheet)
     → ((more : List Sheet) → each sheet_of (filter (is_named (codes "circuit")) es) ≡ Some more → All (IsFew most) more)
     → each sheet_of (filter (is_named (codes "circuit")) (e ∷ es)) ≡ Some sheets → All (IsFew most) sheets
-more_few most e es sheets true k own others h =
+more_few most e es sheets true k mine others h =
     let named = sym (ap (each sheet_of) (cond-true (is_named (codes "circuit") e) (e ∷ filter (is_named (codes "circuit")) es) (filter (is_named (codes "circuit")) es) k)) ∙ h in
     let a = bind_some (sheet_of e) (λ y. each sheet_of (filter (is_named (codes "circuit")) es) >>= λ ys. Some (y ∷ ys)) sheets named in
     let c = bind_some (each sheet_of (filter (is_named (codes "circuit")) es)) (λ ys. Some (a.0 ∷ ys)) sheets a.2 in
-    subst (All (IsFew most)) (same_Some (a.0 ∷ c.0) sheets c.2) (All-cons (IsFew most) a.0 c.0 (own a.0 a.1) (others c.0 c.1))
-more_few most e es sheets false k own others h =
+    subst (All (IsFew most)) (same_Some (a.0 ∷ c.0) sheets c.2) (All-cons (IsFew most) a.0 c.0 (mine a.0 a.1) (others c.0 c.1))
+more_few most e es sheets false k mine others h =
     others sheets (sym (ap (each sheet_of) (cond-false (is_named (codes "circuit") e) (e ∷ filter (is_named (codes "circuit")) es) (filter (is_named (codes "circuit")) es) k)) ∙ h)
 
-sheets_few : (most levels : ℕ) (text : List ℕ) (es : List Element) (bytes : List ℕ) (sheets : List Sheet) → SpellsContent (SpellsElement levels) text es bytes → length bytes ≤ most → each sheet_of (filter (is_named (codes "circuit")) es) ≡ Some sheets → All (IsFew most) sheets
-sheets_few most levels text [] bytes sheets s fits h = subst (All (IsFew most)) (same_Some [] sheets h) (All-nil (IsFew most))
-sheets_few most levels text (e ∷ es) bytes sheets s fits h =
-    let parts = simp length-append at (ap (λ (t : List ℕ). length t) s.8) in
-    more_few most e es sheets (is_named (codes "circuit") e) refl (λ sheet k. omega (arith, circuit_few levels e s.2 sheet s.5 k, parts, fits))
-    (λ more k. sheets_few most levels s.1 es s.3 more s.6 (omega (arith, parts, fits)) k) h
+abbrev circuits : List Piece → List Element
+circuits ps = filter (is_named (codes "circuit")) (flat_map elements_of ps)
 
--- a plain project has no more components and wires in a sheet than its text has bytes
-pub project_few : (bytes : List ℕ) (project : Project) → IsPlainProject bytes project → All (IsFew (length bytes)) project.sheets
+sheets_few : (most : ℕ) (ps : List Piece) (sheets : List Sheet) → AllByRecursion (IsInElement Spells) ps → length (flat_map spelling_of ps) ≤ most → each sheet_of (circuits ps) ≡ Some sheets → All (IsFew most) sheets
+sheets_few most [] sheets all fits h = subst (All (IsFew most)) (same_Some [] sheets h) (All-nil (IsFew most))
+sheets_few most (own c ∷ ps) sheets all fits h = sheets_few most ps sheets all.1 (omega (arith, fits)) h
+sheets_few most (reference name ∷ ps) sheets all fits h = sheets_few most ps sheets all.1 (let long = length-append (codes "&" ++ name ++ codes ";") (flat_map spelling_of ps) in omega (arith, fits, long)) h
+sheets_few most (comment inside ∷ ps) sheets all fits h = sheets_few most ps sheets all.1 (let long = length-append (codes "<!--" ++ inside ++ codes "-->") (flat_map spelling_of ps) in omega (arith, fits, long)) h
+sheets_few most (element e b ∷ ps) sheets all fits h =
+    let long = length-append b (flat_map spelling_of ps) in
+    more_few most e (flat_map elements_of ps) sheets (is_named (codes "circuit") e) refl (λ sheet k. omega (arith, circuit_few e b sheet all.0 k, long, fits)) (λ more k. sheets_few most ps more all.1 (omega (arith, long, fits)) k) h
+
+-- a project has no more components and wires in a sheet than its text has bytes
+pub project_few : (bytes : List ℕ) (project : Project) → SaysProject bytes project → All (IsFew (length bytes)) project.sheets
 project_few bytes project is =
     let root = is.root in
     let made : List (List ℕ × List ℕ) → List (List ℕ × List ℕ) → List Sheet → Project = λ libs options sheets. record {
@@ -127,11 +145,8 @@ project_few bytes project is =
     let a = bind_some (each lib_of (children_named (codes "lib") root)) (λ libs. options_of (child_named (codes "options") root) >>= λ options. each sheet_of (children_named (codes "circuit") root) >>= λ sheets. Some (made libs options sheets)) project is.meaning in
     let b = bind_some (options_of (child_named (codes "options") root)) (λ options. each sheet_of (children_named (codes "circuit") root) >>= λ sheets. Some (made a.0 options sheets)) project a.2 in
     let c = bind_some (each sheet_of (children_named (codes "circuit") root)) (λ sheets. Some (made a.0 b.0 sheets)) project b.2 in
-    let i = inside_of greatest_level root is.text.inside is.text.element in
+    let i = inside_of root is.text.inside is.text.element in
     let parts = simp length-append at (ap (λ (t : List ℕ). length t) is.text.spelled) in
-    let found = sheets_few (length bytes) i.0 i.1.text (children_of root) i.1.content c.0 i.1.inside (omega (arith, i.1.fits, parts)) c.1 in
+    let named = ap (λ (es : List Element). each sheet_of (filter (is_named (codes "circuit")) es)) (sym i.are) ∙ c.1 in
+    let found = sheets_few (length bytes) i.pieces c.0 i.allowed (omega (arith, i.fits, parts)) named in
     subst (λ (p : Project). All (IsFew (length bytes)) p.sheets) (same_Some (made a.0 b.0 c.0) project c.2) found
-
-pub is_few : (bytes : List ℕ) (r : Result Project CircFault) → IfOk r (λ p. IsPlainProject bytes p) → IfOk r (λ p. All (IsFew (length bytes)) p.sheets)
-is_few bytes (Ok p) is = project_few bytes p is
-is_few bytes (Err e) is = tt

@@ -1,16 +1,129 @@
--- Reading one after the other, as the loops do.
-use Rattle.std.proofs.Common.{◌≡◌, ℕ, zero, suc, ◌-◌, ◌<◌, Bool, true, false, cond, List, [], ◌∷◌, ◌++◌, length, Option, Some, None, refl, sym, ap, ◌∙◌, append_assoc, arith}
-use Rattle.std.specs.Prelude.{is_some, codes}
-use Rattle.std.proofs.lemmas.Bool.{cond-true, cond-false}
-use Rattle.std.proofs.lemmas.List.{length-append, append-nil}
-use Rattle.lg_circ.specs.declared.fault.CircFault.{CircFault}
-use Rattle.lg_circ.specs.declared.fault.CircFault.TheVariants.{TooLong, NotBuilt, Memory}
-use Rattle.lg_circ.specs.declared.element.Element.{Element}
-use Rattle.lg_circ.specs.Grammar.{is_white, is_own}
+-- What the loops of the reader keep.
+use Rattle.std.proofs.Common.{◌≡◌, ℕ, zero, suc, ◌<◌, ◌≤◌, Bool, true, false, eqb, List, [], ◌∷◌, ◌++◌, length, Option, Some, None, refl, sym, ap, ◌∙◌, append_assoc, arith, ◌↔◌}
+use Rattle.std.specs.Prelude.{IsTrue, codes}
+use Rattle.std.specs.Char.{encode_utf8}
+use Rattle.std.proofs.lemmas.Bool.{eqb-true}
+use Rattle.std.proofs.lemmas.List.{length-append, append-nil, nil_from_length}
+use Rattle.lg_circ.specs.Grammar.{is_white, IsMisc}
 use Rattle.lg_circ.specs.Meaning.{◌>>=◌}
-use Rattle.lg_circ.specs.Reading.{Fails, ends_tag, begins, front_of, rest_of, after_mark, attribute_at, attributes_at, content_at, element_at, tag_at, empty_at, open_at}
-use Rattle.lg_circ.proofs.Pieces.{bind_at, front_rest, attribute_takes}
-use Rattle.lg_circ.proofs.Elements.{is_reader}
+use Rattle.lg_circ.specs.declared.fault.CircFault.{CircFault}
+use Rattle.lg_circ.specs.declared.fault.CircFault.TheVariants.{TooLong, TooDeep, NotProject, Memory}
+use Rattle.lg_circ.specs.declared.class.Class.TheVariants.{Own}
+use Rattle.lg_circ.specs.Reading.{Fails, ends_tag, begins, attribute_at, attributes_at, passes, front_of, rest_of, after_mark, after_comment, on_after, after_misc, reference_at, said_behind, said_by, said_of, said_after}
+use Rattle.lg_circ.proofs.Marks.{after_mark_takes}
+use Rattle.lg_circ.proofs.Pieces.{bind_at, front_rest}
+use Rattle.std.proofs.lemmas.Bool.{cond-true, cond-false}
+use Rattle.lg_circ.proofs.Said.{reference_takes}
+use Rattle.lg_circ.proofs.Tags.{attribute_takes}
+use Rattle.lg_circ.proofs.First.{comment_takes}
+use Rattle.lg_circ.proofs.Roots.{misc_all, all_misc}
+
+-- skipping goes on from here as from the start
+pub record ReadsMisc (start bytes : List ℕ) : Type 0 where
+  pub count : ℕ
+  pub enough : length bytes < count
+  pub same : after_misc count bytes ≡ after_misc (suc (length start)) start
+
+pub misc_start : (start : List ℕ) → ReadsMisc start start
+misc_start start = record { count = suc (length start); enough = omega arith; same = refl }
+
+rest_shorter : (p : ℕ → Bool) (bytes : List ℕ) → length (rest_of p bytes) ≤ length bytes
+rest_shorter p bytes = let l = simp length-append at (ap (λ (t : List ℕ). length t) (front_rest p bytes)) in omega (arith, l)
+
+pub comment_shorter : (bytes rest : List ℕ) → after_comment bytes ≡ Some rest → length rest < length bytes
+comment_shorter bytes rest e =
+    let t = comment_takes bytes rest e in
+    let l = simp length-append at (ap (λ (y : List ℕ). length y) t.parts) in
+    omega (arith, l)
+
+pub misc_shorter : (bytes rest : List ℕ) → after_comment (rest_of is_white bytes) ≡ Some rest → length rest < length bytes
+misc_shorter bytes rest e = let l = rest_shorter is_white bytes in let k = comment_shorter (rest_of is_white bytes) rest e in omega (arith, l, k)
+
+pub misc_goes_on : (start bytes rest : List ℕ) → after_comment (rest_of is_white bytes) ≡ Some rest → ReadsMisc start bytes → ReadsMisc start rest
+unfolding after_misc
+misc_goes_on start bytes rest e so_far = from so_far.count so_far.enough so_far.same
+  where
+    from : (count : ℕ) → length bytes < count → after_misc count bytes ≡ after_misc (suc (length start)) start → ReadsMisc start rest
+    from zero lt same = absurd (omega (arith, lt))
+    from (suc n) lt same =
+        let shorter = misc_shorter bytes rest e in
+        record { count = n; enough = omega (arith, shorter, lt); same = ap (λ (o : Option (List ℕ)). on_after o (after_misc n) (rest_of is_white bytes)) (sym e) ∙ same }
+
+pub misc_ends : (start bytes : List ℕ) → after_comment (rest_of is_white bytes) ≡ None → ReadsMisc start bytes → rest_of is_white bytes ≡ after_misc (suc (length start)) start
+unfolding after_misc
+misc_ends start bytes e so_far = from so_far.count so_far.enough so_far.same
+  where
+    from : (count : ℕ) → length bytes < count → after_misc count bytes ≡ after_misc (suc (length start)) start → rest_of is_white bytes ≡ after_misc (suc (length start)) start
+    from zero lt same = absurd (omega (arith, lt))
+    from (suc n) lt same = ap (λ (o : Option (List ℕ)). on_after o (after_misc n) (rest_of is_white bytes)) (sym e) ∙ same
+
+-- nothing is left just where there are white space and comments alone
+pub misc_told : (bytes rest : List ℕ) (result : Bool) → rest ≡ after_misc (suc (length bytes)) bytes → result ≡ eqb (length rest) 0 → IsTrue result ↔ IsMisc bytes
+misc_told bytes rest result e h = (
+  λ t. all_misc bytes (sym e ∙ nil_from_length rest (eqb-true (length rest) 0 (sym h ∙ t))),
+  λ m. h ∙ ap (λ (r : List ℕ). eqb (length r) 0) (e ∙ misc_all bytes m),
+)
+
+-- what was said, and what is said from here on, are the whole
+pub record ReadsSaid (said bytes : List ℕ) (total : Option (List ℕ)) : Type 0 where
+  pub count : ℕ
+  pub enough : length bytes < count
+  pub same : said_after said (said_by count bytes) ≡ total
+
+pub said_start : (said raw : List ℕ) → ReadsSaid said raw (said_after said (said_of raw))
+unfolding said_of
+said_start said raw = record { count = suc (length raw); enough = omega arith; same = refl }
+
+own_rest : (bytes : List ℕ) → length (rest_of (passes Own) bytes) ≤ length bytes
+own_rest bytes = rest_shorter (passes Own) bytes
+
+pub reference_shorter : (bytes more rest : List ℕ) (c : ℕ) → after_mark (codes "&") (rest_of (passes Own) bytes) ≡ Some more → reference_at more ≡ Some (c, rest) → length rest < length bytes
+reference_shorter bytes more rest c e k =
+    let a = ap (λ (t : List ℕ). length t) (after_mark_takes (codes "&") (rest_of (passes Own) bytes) more e) in
+    let t = reference_takes more c rest k in
+    let b = simp length-append at (ap (λ (t : List ℕ). length t) t.parts) in
+    let o = own_rest bytes in
+    omega (arith, a, b, o)
+
+regroup_said : (said front text : List ℕ) (o : Option (List ℕ)) → said_after said (o >>= λ others. Some (front ++ text ++ others)) ≡ said_after ((said ++ front) ++ text) o
+regroup_said said front text None = refl
+regroup_said said front text (Some others) = ap (λ (t : List ℕ). Some t) (sym (append_assoc said (front ++ text) others) ∙ ap (λ (t : List ℕ). t ++ others) (sym (append_assoc said front text)))
+
+pub said_goes_on : (said bytes more rest : List ℕ) (c : ℕ) (total : Option (List ℕ)) → after_mark (codes "&") (rest_of (passes Own) bytes) ≡ Some more → reference_at more ≡ Some (c, rest) → ReadsSaid said bytes total
+    → ReadsSaid ((said ++ front_of (passes Own) bytes) ++ encode_utf8 c) rest total
+unfolding said_by
+said_goes_on said bytes more rest c total e k so_far = from so_far.count so_far.enough so_far.same
+  where
+    from : (count : ℕ) → length bytes < count → said_after said (said_by count bytes) ≡ total → ReadsSaid ((said ++ front_of (passes Own) bytes) ++ encode_utf8 c) rest total
+    from zero lt same = absurd (omega (arith, lt))
+    from (suc n) lt same =
+        let shorter = reference_shorter bytes more rest c e k in
+        let front = front_of (passes Own) bytes in
+        let step : said_by (suc n) bytes ≡ (said_by n rest >>= λ others. Some (front ++ encode_utf8 c ++ others)) =
+        ap (λ (o : Option (List ℕ)). said_behind (said_by n) front o) e ∙ bind_at (reference_at more) (λ x. said_by n x.1 >>= λ others. Some (front ++ encode_utf8 x.0 ++ others)) (c, rest) k in
+        record { count = n; enough = omega (arith, shorter, lt); same = sym (regroup_said said front (encode_utf8 c) (said_by n rest)) ∙ ap (said_after said) (sym step) ∙ same }
+
+pub said_ends : (said bytes : List ℕ) (total : Option (List ℕ)) → after_mark (codes "&") (rest_of (passes Own) bytes) ≡ None → ReadsSaid said bytes total → total ≡ Some (said ++ front_of (passes Own) bytes)
+unfolding said_by
+said_ends said bytes total e so_far = from so_far.count so_far.enough so_far.same
+  where
+    from : (count : ℕ) → length bytes < count → said_after said (said_by count bytes) ≡ total → total ≡ Some (said ++ front_of (passes Own) bytes)
+    from zero lt same = absurd (omega (arith, lt))
+    from (suc n) lt same = sym same ∙ ap (λ (o : Option (List ℕ)). said_after said (said_behind (said_by n) (front_of (passes Own) bytes) o)) e
+
+pub said_fails : (fault : CircFault) (said bytes more : List ℕ) (total : Option (List ℕ)) → after_mark (codes "&") (rest_of (passes Own) bytes) ≡ Some more → Fails fault (reference_at more) → ReadsSaid said bytes total → Fails fault total
+unfolding said_by
+said_fails Memory said bytes more total e k so_far = tt
+said_fails TooLong said bytes more total e k so_far = absurd k
+said_fails TooDeep said bytes more total e k so_far = absurd k
+said_fails NotProject said bytes more total e k so_far = from so_far.count so_far.enough so_far.same
+  where
+    from : (count : ℕ) → length bytes < count → said_after said (said_by count bytes) ≡ total → total ≡ None
+    from zero lt same = absurd (omega (arith, lt))
+    from (suc n) lt same =
+        let front = front_of (passes Own) bytes in
+        sym same ∙ ap (λ (o : Option (List ℕ)). said_after said (said_behind (said_by n) front o)) e
+        ∙ ap (λ (o : Option (ℕ × List ℕ)). said_after said (o >>= λ x. said_by n x.1 >>= λ others. Some (front ++ encode_utf8 x.0 ++ others))) k
 
 abbrev pub with_front : List (List ℕ × List ℕ) → Option (List (List ℕ × List ℕ) × List ℕ) → Option (List (List ℕ × List ℕ) × List ℕ)
 with_front front read = read >>= λ x. Some (front ++ x.0, x.1)
@@ -63,7 +176,8 @@ pub attributes_fail : (fault : CircFault) (front : List (List ℕ × List ℕ)) 
     → ReadsAttributes front bytes total → Fails fault total
 attributes_fail Memory front bytes total goes fails so_far = tt
 attributes_fail TooLong front bytes total goes fails so_far = absurd fails
-attributes_fail NotBuilt front bytes total goes fails so_far = from so_far.count so_far.enough so_far.same
+attributes_fail TooDeep front bytes total goes fails so_far = absurd fails
+attributes_fail NotProject front bytes total goes fails so_far = from so_far.count so_far.enough so_far.same
   where
     from : (count : ℕ) → length bytes < count → with_front front (attributes_at count bytes) ≡ total → total ≡ None
     from zero lt same = absurd (omega (arith, lt))
@@ -76,112 +190,3 @@ attributes_end front bytes total ends so_far = from so_far.count so_far.enough s
     from : (count : ℕ) → length bytes < count → with_front front (attributes_at count bytes) ≡ total → total ≡ Some (front, rest_of is_white bytes)
     from zero lt same = absurd (omega (arith, lt))
     from (suc n) lt same = sym same ∙ ap (with_front front) (attributes_stop n bytes ends) ∙ ap (λ (ys : List (List ℕ × List ℕ)). Some (ys, rest_of is_white bytes)) (append-nil front)
-
-abbrev Reader : Type 0
-Reader = List ℕ → Option (Element × List ℕ)
-
-abbrev Inside : Type 0
-Inside = List ℕ × List Element × List ℕ
-
-abbrev pub with_inside : List ℕ → List Element → Option (List ℕ × List Element × List ℕ) → Option (List ℕ × List Element × List ℕ)
-with_inside text children read = read >>= λ x. Some (text ++ x.0, children ++ x.1, x.2)
-
--- what was read before, and what is read from here, are the whole
-pub record ReadsContent (reader : List ℕ → Option (Element × List ℕ)) (text : List ℕ) (children : List Element) (bytes : List ℕ) (total : Option (List ℕ × List Element × List ℕ)) : Type 0 where
-  pub count : ℕ
-  pub enough : length bytes < count
-  pub same : with_inside text children (content_at reader count bytes) ≡ total
-
-nothing_before : (read : Option (List ℕ × List Element × List ℕ)) → with_inside [] [] read ≡ read
-nothing_before None = refl
-nothing_before (Some x) = refl
-
-pub content_start : (reader : List ℕ → Option (Element × List ℕ)) (bytes : List ℕ) → ReadsContent reader [] [] bytes (content_at reader (suc (length bytes)) bytes)
-content_start reader bytes = record { count = suc (length bytes); enough = omega arith; same = nothing_before (content_at reader (suc (length bytes)) bytes) }
-
-regroup_inside : (text own : List ℕ) (children : List Element) (child : Element) (read : Option (List ℕ × List Element × List ℕ)) → with_inside text children (read >>= λ y. Some (own ++ y.0, child ∷ y.1, y.2)) ≡ with_inside (text ++ own) (children ++ child ∷ []) read
-regroup_inside text own children child None = refl
-regroup_inside text own children child (Some x) =
-    ap (λ (t : List ℕ). Some (t, children ++ (child ∷ x.1), x.2)) (sym (append_assoc text own x.0))
-    ∙ ap (λ (c : List Element). Some ((text ++ own) ++ x.0, c, x.2)) (sym (append_assoc children (child ∷ []) x.1))
-
-abbrev more_content : (List ℕ → Option (Element × List ℕ)) → ℕ → List ℕ → Option (List ℕ × List Element × List ℕ)
-more_content reader n bytes = reader (rest_of is_own bytes) >>= λ child. content_at reader n child.1 >>= λ others. Some (front_of is_own bytes ++ others.0, child.0 ∷ others.1, others.2)
-
-abbrev pub at_last : List ℕ → Bool
-at_last bytes = is_some (after_mark (codes "</") (rest_of is_own bytes))
-
-content_step : (reader : List ℕ → Option (Element × List ℕ)) (n : ℕ) (bytes : List ℕ) → at_last bytes ≡ false → content_at reader (suc n) bytes ≡ more_content reader n bytes
-unfolding content_at
-content_step reader n bytes e = cond-false (at_last bytes) (Some (front_of is_own bytes, [], rest_of is_own bytes)) (more_content reader n bytes) e
-
-content_stop : (reader : List ℕ → Option (Element × List ℕ)) (n : ℕ) (bytes : List ℕ) → at_last bytes ≡ true → content_at reader (suc n) bytes ≡ Some (front_of is_own bytes, [], rest_of is_own bytes)
-unfolding content_at
-content_stop reader n bytes e = cond-true (at_last bytes) (Some (front_of is_own bytes, [], rest_of is_own bytes)) (more_content reader n bytes) e
-
-pub element_shorter : (allows : List (List ℕ × List ℕ) → Bool) (levels : ℕ) (bytes : List ℕ) (child : Element) (after : List ℕ) → element_at allows levels (rest_of is_own bytes) ≡ Some (child, after) → length after < length bytes
-element_shorter allows levels bytes child after e =
-    let is = is_reader allows levels in
-    let t = is.takes (rest_of is_own bytes) (child, after) e in
-    let o = is.opens child t.0 t.1 in
-    let first : length t.0 ≡ suc (suc (length o.1)) = ap (λ (x : List ℕ). length x) o.2 in
-    let l = simp length-append at (ap (λ (x : List ℕ). length x) t.2) in
-    let whole = simp length-append at (ap (λ (x : List ℕ). length x) (front_rest is_own bytes)) in
-    omega (arith, first, l, whole)
-
-pub content_goes_on : (reader : List ℕ → Option (Element × List ℕ)) (text : List ℕ) (children : List Element) (bytes : List ℕ) (child : Element) (after : List ℕ) (total : Option (List ℕ × List Element × List ℕ)) → at_last bytes ≡ false → reader (rest_of is_own bytes) ≡ Some (child, after) → length after < length bytes
-    → ReadsContent reader text children bytes total → ReadsContent reader (text ++ front_of is_own bytes) (children ++ child ∷ []) after total
-content_goes_on reader text children bytes child after total goes read shorter so_far = from so_far.count so_far.enough so_far.same
-  where
-    from : (count : ℕ) → length bytes < count → with_inside text children (content_at reader count bytes) ≡ total → ReadsContent reader (text ++ front_of is_own bytes) (children ++ child ∷ []) after total
-    from zero lt same = absurd (omega (arith, lt))
-    from (suc n) lt same =
-        let own = front_of is_own bytes in
-        let step : content_at reader (suc n) bytes ≡ (content_at reader n after >>= λ others. Some (own ++ others.0, child ∷ others.1, others.2)) =
-        content_step reader n bytes goes ∙ bind_at (reader (rest_of is_own bytes)) (λ x. content_at reader n x.1 >>= λ others. Some (own ++ others.0, x.0 ∷ others.1, others.2)) (child, after) read in
-        record { count = n; enough = omega (arith, shorter, lt); same = sym (regroup_inside text own children child (content_at reader n after)) ∙ ap (with_inside text children) (sym step) ∙ same }
-
-pub content_fails : (fault : CircFault) (reader : List ℕ → Option (Element × List ℕ)) (text : List ℕ) (children : List Element) (bytes : List ℕ) (total : Option (List ℕ × List Element × List ℕ)) → at_last bytes ≡ false → Fails fault (reader (rest_of is_own bytes))
-    → ReadsContent reader text children bytes total → Fails fault total
-content_fails Memory reader text children bytes total goes fails so_far = tt
-content_fails TooLong reader text children bytes total goes fails so_far = absurd fails
-content_fails NotBuilt reader text children bytes total goes fails so_far = from so_far.count so_far.enough so_far.same
-  where
-    from : (count : ℕ) → length bytes < count → with_inside text children (content_at reader count bytes) ≡ total → total ≡ None
-    from zero lt same = absurd (omega (arith, lt))
-    from (suc n) lt same =
-        sym same ∙ ap (with_inside text children) (content_step reader n bytes goes ∙ ap (λ (o : Option (Element × List ℕ)). o >>= λ x. content_at reader n x.1 >>= λ others. Some (front_of is_own bytes ++ others.0, x.0 ∷ others.1, others.2)) fails)
-
-pub content_ends : (reader : List ℕ → Option (Element × List ℕ)) (text : List ℕ) (children : List Element) (bytes : List ℕ) (total : Option (List ℕ × List Element × List ℕ)) → at_last bytes ≡ true
-    → ReadsContent reader text children bytes total → total ≡ Some (text ++ front_of is_own bytes, children, rest_of is_own bytes)
-content_ends reader text children bytes total ends so_far = from so_far.count so_far.enough so_far.same
-  where
-    from : (count : ℕ) → length bytes < count → with_inside text children (content_at reader count bytes) ≡ total → total ≡ Some (text ++ front_of is_own bytes, children, rest_of is_own bytes)
-    from zero lt same = absurd (omega (arith, lt))
-    from (suc n) lt same = sym same ∙ ap (with_inside text children) (content_stop reader n bytes ends) ∙ ap (λ (c : List Element). Some (text ++ front_of is_own bytes, c, rest_of is_own bytes)) (append-nil children)
-
-pub no_levels : (allows : List (List ℕ × List ℕ) → Bool) (levels : ℕ) (bytes : List ℕ) → levels ≡ 0 → element_at allows levels bytes ≡ None
-unfolding element_at
-no_levels allows levels bytes e = ap (λ (n : ℕ). element_at allows n bytes) e
-
-abbrev inner_at : (List (List ℕ × List ℕ) → Bool) → ℕ → List ℕ × List (List ℕ × List ℕ) × List ℕ → Option (Element × List ℕ)
-inner_at allows levels tag = cond (is_some (after_mark (codes "/") tag.2)) (empty_at tag) (open_at (element_at allows levels) tag)
-
-level_step : (allows : List (List ℕ × List ℕ) → Bool) (levels : ℕ) (bytes : List ℕ) → 0 < levels → element_at allows levels bytes ≡ (tag_at allows bytes >>= inner_at allows (levels - 1))
-unfolding element_at
-level_step allows levels bytes lt =
-    let k : levels ≡ suc (levels - 1) = omega arith in
-    ap (λ (n : ℕ). element_at allows n bytes) k
-
-pub reads_empty : (allows : List (List ℕ × List ℕ) → Bool) (levels : ℕ) (bytes : List ℕ) (tag : List ℕ × List (List ℕ × List ℕ) × List ℕ) → 0 < levels → tag_at allows bytes ≡ Some tag → is_some (after_mark (codes "/") tag.2) ≡ true → element_at allows levels bytes ≡ empty_at tag
-reads_empty allows levels bytes tag lt read e =
-    level_step allows levels bytes lt ∙ bind_at (tag_at allows bytes) (inner_at allows (levels - 1)) tag read ∙ cond-true (is_some (after_mark (codes "/") tag.2)) (empty_at tag) (open_at (element_at allows (levels - 1)) tag) e
-
-pub reads_open : (allows : List (List ℕ × List ℕ) → Bool) (levels : ℕ) (bytes : List ℕ) (tag : List ℕ × List (List ℕ × List ℕ) × List ℕ) → 0 < levels → tag_at allows bytes ≡ Some tag → is_some (after_mark (codes "/") tag.2) ≡ false → element_at allows levels bytes ≡ open_at (element_at allows (levels - 1)) tag
-reads_open allows levels bytes tag lt read e =
-    level_step allows levels bytes lt ∙ bind_at (tag_at allows bytes) (inner_at allows (levels - 1)) tag read ∙ cond-false (is_some (after_mark (codes "/") tag.2)) (empty_at tag) (open_at (element_at allows (levels - 1)) tag) e
-
-pub reads_no_tag : (fault : CircFault) (allows : List (List ℕ × List ℕ) → Bool) (levels : ℕ) (bytes : List ℕ) → 0 < levels → Fails fault (tag_at allows bytes) → Fails fault (element_at allows levels bytes)
-reads_no_tag Memory allows levels bytes lt fails = tt
-reads_no_tag TooLong allows levels bytes lt fails = absurd fails
-reads_no_tag NotBuilt allows levels bytes lt fails = level_step allows levels bytes lt ∙ ap (λ (o : Option (List ℕ × List (List ℕ × List ℕ) × List ℕ)). o >>= inner_at allows (levels - 1)) fails

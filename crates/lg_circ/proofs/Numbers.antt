@@ -7,7 +7,7 @@ use Rattle.std.specs.Str.{bytes_eq}
 use Rattle.std.proofs.Math.Nat.{pow-suc, pow-le-pow_right}
 use Rattle.std.proofs.lemmas.Bool.{cond-true, cond-false, ne_eqb}
 use Rattle.lg_circ.specs.Meaning.{◌>>=◌, number_of, size_of, coordinate_of, before_end, coordinates_of, point_of}
-use Rattle.lg_circ.proofs.Elements.{bytes_same}
+use Rattle.lg_circ.proofs.Marks.{bytes_same}
 
 -- the number that more digits make of one
 abbrev pub goes_to : ℕ → List ℕ → ℕ

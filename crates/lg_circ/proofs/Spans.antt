@@ -8,7 +8,7 @@ use Rattle.std.proofs.lemmas.Bool.{cases_lt}
 use Rattle.std.proofs.lemmas.Bool.Decides.{nat_tests}
 use Rattle.std.proofs.lemmas.Grind.{common_steps}
 use Rattle.lg_circ.specs.declared.class.Class.{Class}
-use Rattle.lg_circ.specs.declared.class.Class.TheVariants.{White, NameStart, Name, Quoted, Own, TagEnd}
+use Rattle.lg_circ.specs.declared.class.Class.TheVariants.{White, NameStart, Name, Reference, Own, Characters, Double, Single, TagEnd}
 use Rattle.lg_circ.specs.Reading.{passes, front_of, rest_of}
 
 pub take-front : (p : ℕ → Bool) (xs : List ℕ) → take (prefix_len p xs) xs ≡ front_of p xs
@@ -24,8 +24,11 @@ pub others_alike : (class : Class) (c : ℕ) → 128 ≤ c → (passes class c �
 others_alike White c h = grind (arith, nat_tests)
 others_alike NameStart c h = grind (arith, nat_tests)
 others_alike Name c h = grind (arith, nat_tests)
-others_alike Quoted c h = grind (arith, nat_tests)
+others_alike Reference c h = grind (arith, nat_tests)
 others_alike Own c h = grind (arith, nat_tests)
+others_alike Characters c h = grind (arith, nat_tests)
+others_alike Double c h = grind (arith, nat_tests)
+others_alike Single c h = grind (arith, nat_tests)
 others_alike TagEnd c h = grind (arith, nat_tests)
 
 -- where a class stops, the text may be cut

@@ -4,5 +4,7 @@ pub mod Pairs
 pub mod Tree
 pub mod Grammar
 pub mod Meaning
-pub mod Plain
+pub mod Project
 pub mod Reading
+pub mod Seen
+pub mod Grown

@@ -1,5 +1,6 @@
 -- Elements as trees: the name, the attributes, the own characters and the elements inside.
-use Rattle.std.specs.Prelude.{ℕ, List, Bool, Option, find, filter}
+use Rattle.std.specs.Prelude.{ℕ, zero, suc, List, Bool, false, Option, find, filter}
+use Rattle.std.specs.List.{list_all}
 use Rattle.std.specs.Str.{bytes_eq}
 use Rattle.lg_circ.specs.declared.element.Element.{Element, out-Element}
 use Rattle.lg_circ.specs.Pairs.{value_under}
@@ -31,3 +32,12 @@ child_named name e = find (is_named name) (children_of e)
 -- the value of an element's attribute
 abbrev pub attribute : List ℕ → Element → Option (List ℕ)
 attribute name e = value_under name (attributes_of e)
+
+-- the element has at most so many levels; one without others inside has one level
+unfoldable pub has_levels : ℕ → Element → Bool
+has_levels zero e = false
+has_levels (suc levels) e = list_all (has_levels levels) (children_of e)
+
+-- how many levels of a project are read
+abbrev pub greatest_level : ℕ
+greatest_level = 64

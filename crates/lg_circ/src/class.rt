@@ -14,10 +14,16 @@ pub enum Class {
     NameStart,
     /// What a name goes on with.
     Name,
-    /// What stands for itself between two `"`.
-    Quoted,
-    /// What stands for itself between two tags.
+    /// What the name or the number of a character is made of: ASCII letters, digits and `#`.
+    Reference,
+    /// All but `&`.
     Own,
+    /// All but `<`.
+    Characters,
+    /// All but `<` and `"`.
+    Double,
+    /// All but `<` and `'`.
+    Single,
     /// `>` and `/`.
     TagEnd,
 }
@@ -31,8 +37,11 @@ impl Class {
             Class::White => c == b' ' || c == b'\t' || c == b'\r' || c == b'\n',
             Class::NameStart => starts_name(c),
             Class::Name => starts_name(c) || c.is_ascii_digit() || c == b'-' || c == b'.',
-            Class::Quoted => c != b'<' && c != b'&' && c != b'"',
-            Class::Own => c != b'<' && c != b'&',
+            Class::Reference => c.is_ascii_alphabetic() || c.is_ascii_digit() || c == b'#',
+            Class::Own => c != b'&',
+            Class::Characters => c != b'<',
+            Class::Double => c != b'<' && c != b'"',
+            Class::Single => c != b'<' && c != b'\'',
             Class::TagEnd => c == b'>' || c == b'/',
         }
     }

@@ -9,7 +9,7 @@ pub struct Element {
     pub name: Text,
     /// Name and value of each attribute, in text order.
     pub attributes: Items<(Text, Text)>,
-    /// Its own characters, joined, without those of the elements inside.
+    /// Its own characters and references, joined, without those of the elements inside.
     pub text: Text,
     /// The elements inside, in text order.
     pub children: Items<Element>,

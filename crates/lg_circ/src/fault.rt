@@ -10,8 +10,10 @@ use std::alloc::{AllocError, AllocFailed};
 pub enum CircFault {
     /// The text has more than `GREATEST_LENGTH` bytes.
     TooLong,
-    /// The text is no plain project, and no other is read yet.
-    NotBuilt,
+    /// The text spells elements in more than 64 levels.
+    TooDeep,
+    /// The text says no project.
+    NotProject,
     /// There was no memory.
     Memory,
 }

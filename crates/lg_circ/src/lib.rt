@@ -1,17 +1,20 @@
 //! Project files: the grammar of their text, and what it says.
 #![tactic(auto)]
 
+mod character;
 mod class;
 mod element;
 mod fault;
+mod judge;
 mod law;
+mod mark;
 mod meaning;
 mod pairs;
-mod plain;
 mod point;
 mod project;
 mod read;
-mod reading;
+mod tag;
+mod tree;
 
 pub use element::Element;
 pub use fault::CircFault;

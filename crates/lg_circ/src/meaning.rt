@@ -1,32 +1,106 @@
-//! What a plain tree says as a project.
+//! What a tree says as a project.
 
-ghost use Rattle.std.specs.Prelude.{◌≡◌, codes, IsTrue, Some, option_and_then};
-ghost use Rattle.lg_circ.specs.Tree.{attribute, children_named};
-ghost use Rattle.lg_circ.specs.Plain.{is_plain};
-ghost use Rattle.lg_circ.specs.Meaning.{each, point_of, lib_of, setting_of, settings_of, wire_of, comp_of, sheet_of, project_of};
+ghost use Rattle.std.specs.Prelude.{◌≡◌, codes, Some, option_and_then};
+ghost use Rattle.std.specs.Option.{option_copied};
+ghost use Rattle.lg_circ.specs.Tree.{attribute, children_named, child_named, is_named};
+ghost use Rattle.lg_circ.specs.Bounds.{is_limit};
+ghost use Rattle.lg_circ.specs.Pairs.{value_under};
+ghost use Rattle.lg_circ.specs.Meaning.{each, point_of, lib_of, setting_of, settings_of, wire_of, comp_of, sheet_of, options_of, limit_of, is_error, project_of};
 ghost use Rattle.lg_circ.specs.Reading.{Gives};
 
+use crate::character::{are_decimal, number};
 use crate::element::Element;
 use crate::fault::CircFault;
-use crate::plain::{has_name, value_of};
+use crate::pairs::value_under;
 use crate::point::point;
-use crate::project::{Attrs, Comp, Point, Project, Sheet, USUAL_LIMIT, Wire};
+use crate::project::{Attrs, Comp, GREATEST_LIMIT, Point, Project, Sheet, USUAL_LIMIT, Wire};
 use lg_text::Text;
 use sqlite_items::Items;
 use std::alloc::Global;
 
-/// The project of a plain tree, which has no elements `main` and `options`.
+/// The project that a tree says.
 pub fn project(alloc: Global, root: &Element) -> Result<Project, CircFault>
-    requires { IsTrue (is_plain root.now) }
     ensures { Gives (λ p. p) result (project_of root.now) }
 {
+    let libs = libraries(alloc, root)?;
+    let options = options(alloc, root)?;
+    let sheets = sheets(alloc, root)?;
+    let main = main_name(alloc, root)?;
     Ok(Project {
-        libs: libraries(alloc, root)?,
-        main: None,
-        strict: false,
-        limit: USUAL_LIMIT,
-        sheets: sheets(alloc, root)?,
+        libs,
+        main,
+        strict: is_strict(options.as_slice()),
+        limit: limit(options.as_slice()),
+        sheets,
     })
+}
+
+/// The name that the first element `main` gives.
+fn main_name(alloc: Global, root: &Element) -> Result<Option<Text>, CircFault>
+    ensures { Gives (λ m. m) result (Some (option_and_then (attribute (codes "name")) (child_named (codes "main") root.now))) }
+{
+    match child(root, "main") {
+        Some(main) => copy_of(alloc, value_of(main, "name")),
+        None => Ok(None),
+    }
+}
+
+/// The settings of the first element `options`.
+fn options(alloc: Global, root: &Element) -> Result<Items<(Text, Text)>, CircFault>
+    ensures { Gives (λ s. s) result (options_of (child_named (codes "options") root.now)) }
+{
+    match child(root, "options") {
+        Some(options) => settings(alloc, options),
+        None => Ok(Items::new(alloc)),
+    }
+}
+
+/// The first element of this name inside.
+fn child<'a>(element: &'a Element, name: &str) -> Option<&'a Element>
+    ensures { option_copied result ≡ child_named name.now element.now }
+{
+    for child in element.children.as_slice() {
+        if has_name(child, name) {
+            return Some(child);
+        }
+    }
+    None
+}
+
+fn is_strict(options: &[(Text, Text)]) -> bool
+    ensures { result ≡ is_error (value_under (codes "gateUndefined") options.now) }
+{
+    match value_under("gateUndefined", options) {
+        Some(value) => value.as_str() == "error",
+        None => false,
+    }
+}
+
+fn limit(options: &[(Text, Text)]) -> u32
+    ensures { result ≡ (limit_of (value_under (codes "simlimit") options.now)).0 }
+{
+    match value_under("simlimit", options) {
+        Some(value) => limit_said(value.as_str()),
+        None => USUAL_LIMIT,
+    }
+}
+
+/// The limit that a text says, and the usual one where it says none.
+fn limit_said(text: &str) -> u32
+    ensures { result ≡ (limit_of (Some text.now)).0 }
+{
+    let digits = text.as_bytes();
+    if !are_decimal(digits) {
+        return USUAL_LIMIT;
+    }
+    let limit = number(digits, 10);
+    if is_limit(limit) { limit } else { USUAL_LIMIT }
+}
+
+fn is_limit(limit: u32) -> bool
+    ensures { result ≡ is_limit limit }
+{
+    1 <= limit && limit <= GREATEST_LIMIT
 }
 
 fn libraries(alloc: Global, root: &Element) -> Result<Items<(Text, Text)>, CircFault>
@@ -92,9 +166,9 @@ fn comp(alloc: Global, element: &Element) -> Result<Comp, CircFault>
     let name = copy_under(alloc, element, "name")?;
     let loc = point_under(element, "loc")?;
     let list = settings(alloc, element)?;
-    let lib = library_name(alloc, element)?;
+    let lib = copy_of(alloc, value_of(element, "lib"))?;
     if !loc.is_on_sheet() {
-        return Err(CircFault::NotBuilt);
+        return Err(CircFault::NotProject);
     }
     Ok(Comp {
         lib,
@@ -104,12 +178,12 @@ fn comp(alloc: Global, element: &Element) -> Result<Comp, CircFault>
     })
 }
 
-// The name of the library that a component comes from.
-fn library_name(alloc: Global, element: &Element) -> Result<Option<Text>, CircFault>
-    ensures { Gives (λ l. l) result (Some (attribute (codes "lib") element.now)) }
+/// A copy of a value, if there is one.
+fn copy_of(alloc: Global, value: Option<&Text>) -> Result<Option<Text>, CircFault>
+    ensures { Gives (λ v. v) result (Some (option_copied value.entry)) }
 {
-    match value_of(element, "lib") {
-        Some(lib) => Ok(Some(Text::copy_of(alloc, lib.as_str())?)),
+    match value {
+        Some(value) => Ok(Some(Text::copy_of(alloc, value.as_str())?)),
         None => Ok(None),
     }
 }
@@ -157,7 +231,7 @@ fn wire(element: &Element) -> Result<Wire, CircFault>
     if from.is_on_sheet() && to.is_on_sheet() {
         Ok(Wire { from, to })
     } else {
-        Err(CircFault::NotBuilt)
+        Err(CircFault::NotProject)
     }
 }
 
@@ -165,13 +239,27 @@ fn wire(element: &Element) -> Result<Wire, CircFault>
 fn copy_under(alloc: Global, element: &Element, name: &str) -> Result<Text, CircFault>
     ensures { Gives (λ t. t) result (attribute name.now element.now) }
 {
-    let value = value_of(element, name).ok_or(CircFault::NotBuilt)?;
+    let value = value_of(element, name).ok_or(CircFault::NotProject)?;
     Ok(Text::copy_of(alloc, value.as_str())?)
 }
 
 fn point_under(element: &Element, name: &str) -> Result<Point, CircFault>
     ensures { Gives (λ p. p) result (option_and_then point_of (attribute name.now element.now)) }
 {
-    let value = value_of(element, name).ok_or(CircFault::NotBuilt)?;
-    point(value.as_str()).ok_or(CircFault::NotBuilt)
+    let value = value_of(element, name).ok_or(CircFault::NotProject)?;
+    point(value.as_str()).ok_or(CircFault::NotProject)
+}
+
+/// Whether the element has this name.
+fn has_name(element: &Element, name: &str) -> bool
+    ensures { result ≡ is_named name.now element.now }
+{
+    element.name.as_str() == name
+}
+
+/// The value of the element's attribute of this name.
+fn value_of<'a>(element: &'a Element, name: &str) -> Option<&'a Text>
+    ensures { option_copied result ≡ attribute name.now element.now }
+{
+    value_under(name, element.attributes.as_slice())
 }

@@ -1,12 +1,14 @@
 //! Names and values in lists, as the attributes of an element and of a component, and the libraries of a project.
 
-ghost use Rattle.std.specs.Prelude.{◌≡◌, ℕ, List};
+ghost use Rattle.std.specs.Prelude.{◌≡◌, ℕ, List, IfOk};
 ghost use Rattle.std.specs.List.{list_all, list_any};
 ghost use Rattle.std.specs.Option.{option_copied};
 ghost use Rattle.std.specs.Str.{bytes_eq};
 ghost use Rattle.lg_circ.specs.Pairs.{value_under, names_differ, has_only, texts};
 
 use lg_text::Text;
+use std::alloc::{AllocError, Global};
+use std::collections::BTreeSet;
 
 /// The first value under a name.
 pub fn value_under<'a>(name: &str, pairs: &'a [(Text, Text)]) -> Option<&'a Text>
@@ -24,11 +26,36 @@ pub fn value_under<'a>(name: &str, pairs: &'a [(Text, Text)]) -> Option<&'a Text
 pub fn has_only(names: &[&str], pairs: &[(Text, Text)]) -> bool
     ensures { result ≡ has_only (texts names.now) pairs.now }
 {
-    are_among(names, pairs) && names_differ(pairs)
+    are_among(names, pairs) && few_differ(pairs)
 }
 
-/// Whether no name stands twice.
-pub fn names_differ(pairs: &[(Text, Text)]) -> bool
+/// How many names are compared each with each.
+const FEW: usize = 16;
+
+/// Whether no name stands twice. Many names are put in order, so that each is compared with few others.
+pub fn names_differ(alloc: Global, pairs: &[(Text, Text)]) -> Result<bool, AllocError>
+    ensures { IfOk result (λ differ. differ ≡ names_differ pairs.now) }
+{
+    if pairs.len() <= FEW {
+        Ok(few_differ(pairs))
+    } else {
+        many_differ(alloc, pairs)
+    }
+}
+
+fn many_differ(alloc: Global, pairs: &[(Text, Text)]) -> Result<bool, AllocError>
+    ensures { IfOk result (λ differ. differ ≡ names_differ pairs.now) }
+{
+    let mut names = BTreeSet::new(alloc);
+    for (name, _) in pairs {
+        if !names.insert(name.as_str())? {
+            return Ok(false);
+        }
+    }
+    Ok(true)
+}
+
+fn few_differ(pairs: &[(Text, Text)]) -> bool
     ensures { result ≡ names_differ pairs.now }
 {
     for (at, (name, _)) in pairs.iter().enumerate() {

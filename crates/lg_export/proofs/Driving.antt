@@ -1,5 +1,5 @@
 -- Where no net has two drivers, the name that is found for a net is that of its driver.
-use Rattle.std.proofs.Common.{◌≡◌, ℕ, ◌+◌, ◌<◌, ◌≤◌, Bool, true, false, not, List, [], ◌∷◌, ◌++◌, length, map, eq-eqb, refl, sym, ap, subst, ◌∙◌, arith, inl, inr, ◌⊎◌}
+use Rattle.std.proofs.Common.{◌≡◌, ℕ, ◌+◌, ◌<◌, ◌≤◌, Bool, true, false, not, List, [], ◌∷◌, ◌++◌, length, map, filter, eq-eqb, refl, sym, ap, subst, ◌∙◌, arith, inl, inr, ◌⊎◌}
 use Rattle.std.specs.Prelude.{◌==◌}
 use Rattle.std.specs.List.{AllByRecursion, list_any, flat_map}
 use Rattle.std.proofs.lemmas.Bool.{eqb-true, false≢true, or_right}
@@ -94,12 +94,15 @@ nets_of-pins (p ∷ pins) =
     nets_of-append (map (λ net. (net, input_name p)) p.bits) (pins_drive pins)
     ∙ two (nets_of (map (λ net. (net, input_name p)) p.bits)) p.bits (nets_of (pins_drive pins)) (flat_map (λ (q : PinUse). q.bits) pins) (nets_of-bits (input_name p) p.bits) (nets_of-pins pins)
 
--- the nets of the drivers are the driven nets
-pub nets_of-drivers : (n : Netlist) → IsOneGateShape n → nets_of (drivers n) ≡ driven n
-nets_of-drivers n plain =
+-- the nets of the drivers are the driven nets, where the clock pin is none of them
+pub nets_of-all : (n : Netlist) → input_pins n ≡ filter (λ (p : PinUse). p.input) n.pins → nets_of (drivers n) ≡ driven n
+nets_of-all n pins_are =
     nets_of-append (part_drivers 0 n.parts) (pins_drive (input_pins n))
     ∙ two (nets_of (part_drivers 0 n.parts)) (driven_by_parts n.parts) (nets_of (pins_drive (input_pins n))) (driven_by_pins n.pins) (nets_of-parts 0 n.parts)
-    (nets_of-pins (input_pins n) ∙ ap (flat_map (λ (p : PinUse). p.bits)) plain.input_pins_are)
+    (nets_of-pins (input_pins n) ∙ ap (flat_map (λ (p : PinUse). p.bits)) pins_are)
+
+pub nets_of-drivers : (n : Netlist) → IsOneGateShape n → nets_of (drivers n) ≡ driven n
+nets_of-drivers n plain = nets_of-all n plain.input_pins_are
 
 -- so what is found for a net is the name of its driver
 pub found : (n : Netlist) → IsOneGateShape n → (net : ℕ) (name : List ℕ) → IsEntry (drivers n) net name → driver_name (drivers n) net ≡ name

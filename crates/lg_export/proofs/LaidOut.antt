@@ -30,20 +30,20 @@ below_outputs nets part output (bits ∷ outputs) h =
     All-append (λ (d : Entry). d.0 < nets) (map (λ net. (net, output_wire part output)) bits) (output_drivers part (output + 1) outputs)
     (below_bits nets (output_wire part output) bits (All-head (IsPort nets) bits outputs h).on_nets) (below_outputs nets part (output + 1) outputs (All-tail (IsPort nets) bits outputs h))
 
-below_parts : (nets part : ℕ) (parts : List PartUse) → All (IsFittingPart nets) parts → AreBelow nets (part_drivers part parts)
+pub below_parts : (nets part : ℕ) (parts : List PartUse) → All (IsFittingPart nets) parts → AreBelow nets (part_drivers part parts)
 below_parts nets part [] h = All-nil (λ (d : Entry). d.0 < nets)
 below_parts nets part (p ∷ parts) h =
     All-append (λ (d : Entry). d.0 < nets) (output_drivers part 0 p.outputs) (part_drivers (part + 1) parts)
     (below_outputs nets part 0 p.outputs (All-head (IsFittingPart nets) p parts h).outputs) (below_parts nets (part + 1) parts (All-tail (IsFittingPart nets) p parts h))
 
-below_pins : (nets : ℕ) (pins : List PinUse) → All (IsFittingPin nets) pins → AreBelow nets (pins_drive pins)
+pub below_pins : (nets : ℕ) (pins : List PinUse) → All (IsFittingPin nets) pins → AreBelow nets (pins_drive pins)
 below_pins nets [] h = All-nil (λ (d : Entry). d.0 < nets)
 below_pins nets (p ∷ pins) h =
     All-append (λ (d : Entry). d.0 < nets) (map (λ net. (net, input_name p)) p.bits) (pins_drive pins)
     (below_bits nets (input_name p) p.bits (All-head (IsFittingPin nets) p pins h).on_nets) (below_pins nets pins (All-tail (IsFittingPin nets) p pins h))
 
 -- a net among those of the drivers is driven
-driven_net : (entries : List Entry) (net : ℕ) → IsNetIn (nets_of entries) net → IsDriven entries net
+pub driven_net : (entries : List Entry) (net : ℕ) → IsNetIn (nets_of entries) net → IsDriven entries net
 driven_net [] net h = absurd h
 driven_net (d ∷ more) net (inl e) = let same : (d.0 == net) ≡ true = eq-eqb d.0 net (sym e) in rw same refl
 driven_net (d ∷ more) net (inr h) = or_right (d.0 == net) (list_any (λ (e : Entry). e.0 == net) more) (driven_net more net h)
@@ -72,7 +72,7 @@ read_pins entries on (p ∷ pins) h driven =
     let here : IsReadable entries (single h.0.net) = record { has_bit = lit< tt; driven = driven h.0.net h.0.among } in
     All-cons (λ (pin : PinUse). IsReadable entries pin.bits) p pins (subst (IsReadable entries) (sym h.0.bits) here) (read_pins entries on pins h.1 driven)
 
-named_pins : (nets : ℕ) (pins : List PinUse) → All (IsFittingPin nets) pins → All IsNamed pins
+pub named_pins : (nets : ℕ) (pins : List PinUse) → All (IsFittingPin nets) pins → All IsNamed pins
 named_pins nets pins h = All-weaker (IsFittingPin nets) IsNamed (λ (p : PinUse) (fits : IsFittingPin nets p). fits.named) pins h
 
 -- such a netlist can be laid out

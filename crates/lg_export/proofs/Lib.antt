@@ -13,3 +13,4 @@ pub mod LaidOut
 pub mod NetBits
 pub mod SettlesSoon
 pub mod Tables
+mod Accepted

@@ -14,9 +14,9 @@ use Rattle.lg_netlist.specs.declared.netlist.Cell.TheVariants as cell
 use Rattle.lg_netlist.specs.declared.netlist.PartUse.{PartUse}
 use Rattle.lg_netlist.specs.declared.netlist.PinUse.{PinUse}
 use Rattle.lg_netlist.specs.OneGate.{is_among, all_differ}
-use Rattle.lg_netlist.specs.Cell.{cell_word}
+use Rattle.lg_netlist.specs.Cell.{cell_word, delay_of}
 use Rattle.lg_netlist.specs.Static.{word_at}
-use Rattle.lg_sim.specs.InTime.{delay_of, port_of, given, part_of}
+use Rattle.lg_sim.specs.InTime.{port_of, given, part_of}
 use Rattle.lg_export.proofs.OneGateShape.{both_hold, single, IsSimple, IsPinOn, IsLoose}
 use Rattle.lg_export.proofs.Gates.{gate_bit, cell_word-bit}
 

@@ -234,18 +234,18 @@ pub record IsOneGateShape (n : Netlist) : Type 0 where
   pub no_clocks : n.clocks ≡ []
   pub no_clock_pin : n.clock_pin ≡ None
 
-data_pins_all : (n : Netlist) → n.clock_pin ≡ None → data_pins n ≡ n.pins
+pub data_pins_all : (n : Netlist) → n.clock_pin ≡ None → data_pins n ≡ n.pins
 data_pins_all n e = rw e (all_kept 0 n.pins)
   where
     all_kept : (k : ℕ) (pins : List PinUse) → map (λ (p : ℕ × PinUse). p.1) (filter (λ (p : ℕ × PinUse). true) (enumerate_from k pins)) ≡ pins
     all_kept k [] = refl
     all_kept k (p ∷ pins) = ap (λ (ps : List PinUse). p ∷ ps) (all_kept (k + 1) pins)
 
-no_items : {A : Type 0} (xs : List A) → (length xs == 0) ≡ true → xs ≡ []
+pub no_items : {A : Type 0} (xs : List A) → (length xs == 0) ≡ true → xs ≡ []
 no_items [] h = refl
 no_items (x ∷ xs) h = let none : suc (length xs) ≡ 0 = eqb-true (suc (length xs)) 0 h in absurd (omega (arith, none))
 
-none_is : {A : Type 0} (o : Option A) → is_none o ≡ true → o ≡ None
+pub none_is : {A : Type 0} (o : Option A) → is_none o ≡ true → o ≡ None
 none_is None h = refl
 none_is (Some x) h = absurd (false≢true h)
 

@@ -1,35 +1,42 @@
 //! The module of a netlist, as a whole.
 
-ghost use Rattle.std.specs.Prelude.{◌≡◌, All, IfOk, IsTrue};
+ghost use Rattle.std.specs.Prelude.{◌≡◌, ◌⊎◌, All, IfOk, IfErr, IsOk, IsTrue};
 ghost use Rattle.std.specs.List.{flat_map};
 ghost use Rattle.lg_netlist.specs.Static.{data_pins};
 ghost use Rattle.lg_export.specs.Layout.{numbered, part_decls, module_ports, module_assigns, module_of};
-ghost use Rattle.lg_netlist.specs.OneGate.{is_one_gate};
+ghost use Rattle.lg_netlist.specs.Acceptance.{IsAccepted, IsRefused};
+ghost use Rattle.lg_netlist.specs.OneGate.{has_no_clock, is_one_gate};
+ghost use Rattle.lg_netlist.specs.declared.acceptance.NotAccepted.TheVariants as refusal;
 ghost use Rattle.lg_export.specs.Readable.{IsNamed, CanBeLaidOut};
 ghost use Rattle.lg_export.specs.Agreement.{Agrees};
 ghost use Rattle.lg_export.specs.InTime.{AgreesInTime};
 
 use crate::drivers::Drivers;
-use crate::fault::NotAccepted;
 use crate::names::{input_name, module_name, output_name};
 use crate::parts::{put_assigns, put_decls};
-use lg_netlist::{Netlist, PartUse};
+use lg_netlist::{Netlist, NotAccepted, PartUse};
 use lg_verilog::{Assign, Decl, Direction, Module, Port, Range};
 use sqlite_items::Items;
 use std::alloc::{AllocError, Global};
 
-/// The module of a netlist: a port `i_NAME` or `o_NAME` for each pin, a wire `xP_I` at each attached input I and `wP_O`
-/// at each output O of part P, and an equation for each of these wires and for each output port.
+/// The module of a netlist that is accepted, and why another is not: a port `i_NAME` or `o_NAME` for each pin, a wire
+/// `xP_I` at each attached input I and `wP_O` at each output O of part P, and an equation for each of these wires and for
+/// each output port.
 pub fn export(alloc: Global, netlist: &Netlist) -> Result<Module, NotAccepted>
-    // So far: each gate reads input pins alone.
-    requires { IsTrue (is_one_gate netlist.now) }
+    // So far: no clock.
+    requires { IsTrue (has_no_clock netlist.now) }
+    ensures accepted { IsOk result → IsAccepted netlist.now }
+    ensures refused { IfErr result (λ fault. (fault ≡ refusal.Memory) ⊎ IsRefused netlist.now fault) }
     // Each part has its own wires and equations.
     ensures layout { IfOk result (λ m. m ≡ module_of netlist.now) }
-    // On each row of defined inputs the module has exactly one solution, and its outputs are the static values.
-    ensures agrees { IfOk result (λ m. Agrees netlist.now m) }
-    // Each list of such rows has exactly one session table, in which each row settles in at most one instant, on these outputs.
-    ensures in_time { IfOk result (λ m. AgreesInTime netlist.now m) }
+    // Of a one-gate circuit: on each row of defined inputs the module has exactly one solution, and its outputs are
+    // the static values.
+    ensures agrees { IfOk result (λ m. IsTrue (is_one_gate netlist.now) → Agrees netlist.now m) }
+    // Of a one-gate circuit: each list of such rows has exactly one session table, in which each row settles in at
+    // most one instant, on these outputs.
+    ensures in_time { IfOk result (λ m. IsTrue (is_one_gate netlist.now) → AgreesInTime netlist.now m) }
 {
+    netlist.check_export(alloc)?;
     Ok(laid_out(alloc, netlist)?)
 }
 

@@ -2,12 +2,10 @@
 #![tactic(auto)]
 
 mod drivers;
-mod fault;
 mod layout;
 mod names;
 mod parts;
 
-pub use fault::NotAccepted;
 pub use layout::export;
 
 #[cfg(test)]

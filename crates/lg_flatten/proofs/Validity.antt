@@ -98,6 +98,25 @@ few_parts circuit (c ∷ comps) (r ∷ roles) ports =
     one (Pin input) own = omega arith
     one (Gate cell size) own = omega arith
 
+few_pins : (circuit : List ℕ) (names : List (List ℕ)) (comps : List Comp) (roles : List Role) (ports : List (List ℕ)) → length (pins_of circuit names (zip comps roles) ports) ≤ length comps
+few_pins circuit names [] roles ports = omega arith
+few_pins circuit names (c ∷ comps) [] ports = omega arith
+few_pins circuit names (c ∷ comps) (r ∷ roles) ports =
+    let n = port_count (c, r) in
+    let first = one r names (take n ports) in
+    let others = few_pins circuit (names_after r names) comps roles (drop n ports) in
+    omega (arith, first, others, length-append (role_pin circuit c names (take n ports) r) (pins_of circuit (names_after r names) (zip comps roles) (drop n ports)))
+  where
+    one : (r : Role) (names : List (List ℕ)) (own : List (List ℕ)) → length (role_pin circuit c names own r) ≤ 1
+    one (Pin input) [] [] = omega arith
+    one (Pin input) [] (bits ∷ ports) = omega arith
+    one (Pin input) (name ∷ names) [] = omega arith
+    one (Pin input) (name ∷ names) (bits ∷ ports) = omega arith
+    one (Gate cell size) [] [] = omega arith
+    one (Gate cell size) [] (bits ∷ ports) = omega arith
+    one (Gate cell size) (name ∷ names) [] = omega arith
+    one (Gate cell size) (name ∷ names) (bits ∷ ports) = omega arith
+
 abbrev IsName : List ℕ → Type 0
 IsName name = IsTrue (is_pin_name name)
 
@@ -185,6 +204,8 @@ valid circuit wires comps roles ports count names made naming few named differ =
     let uses : List Use = zip comps roles in
     record {
       few_parts = omega (arith, few_parts circuit comps roles ports, few);
+      few_pins = omega (arith, few_pins circuit names comps roles ports, few);
+      few_clocks = omega arith;
       parts_fit = parts_fit circuit count uses made.attached ports made.are_attached.one_each (port_bits wires uses ports count made);
       pins_fit = pins_fit circuit count names uses made.attached ports named made.are_attached.one_each (port_bits wires uses ports count made);
       clocks_fit = All-nil (λ (c : ℕ × List ℕ). c.0 < count);

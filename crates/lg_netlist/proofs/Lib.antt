@@ -9,3 +9,14 @@ pub mod MarkLemmas
 pub mod OneGateLemmas
 pub mod SomeNumbers
 pub mod SomeNames
+pub mod DriverLemmas
+pub mod FirstTwoLemmas
+pub mod AcceptanceLemmas
+pub mod OutputLemmas
+pub mod NetGraphLemmas
+pub mod CycleLemmas
+pub mod OrderLemmas
+pub mod OneRefusal
+pub mod LongestLemmas
+pub mod Ways
+pub mod Judged

@@ -6,3 +6,9 @@ pub mod Valid
 pub mod OneGate
 pub mod Marks
 pub mod Static
+pub mod Drivers
+pub mod FirstTwo
+pub mod Chain
+pub mod Graph
+pub mod Acceptance
+pub mod Longest

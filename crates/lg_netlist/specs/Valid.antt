@@ -52,9 +52,11 @@ pub record IsFittingPin (nets : ℕ) (p : PinUse) : Type 0 where
 abbrev pub IsInputAt : List PinUse → ℕ → Type 0
 IsInputAt pins place = IfSome (slice_get pins place) (λ pin. pin.input ≡ true)
 
--- parts and pins fit, parts are counted in 32 bits, clocks are on nets, names of pins differ, and the clock pin is an input pin
+-- parts, pins and clocks are counted in 32 bits, parts and pins fit, clocks are on nets, names of pins differ, and the clock pin is an input pin
 pub record IsValid (parts : List PartUse) (pins : List PinUse) (clocks : List (ℕ × List ℕ)) (nets : ℕ) (clock_pin : Option ℕ) : Type 0 where
   pub few_parts : length parts < 2 ^ 32
+  pub few_pins : length pins < 2 ^ 32
+  pub few_clocks : length clocks < 2 ^ 32
   pub parts_fit : All (IsFittingPart nets) parts
   pub pins_fit : All (IsFittingPin nets) pins
   pub clocks_fit : All (λ (c : ℕ × List ℕ). c.0 < nets) clocks

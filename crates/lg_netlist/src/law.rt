@@ -1,8 +1,11 @@
 //! Laws of the definitions.
 
-ghost use Rattle.std.specs.Prelude.{◌≡◌, ℕ, ◌<◌, ◌^◌, List, [], length};
+ghost use Rattle.std.specs.Prelude.{◌≡◌, ℕ, ◌<◌, ◌^◌, ◌⊎◌, List, [], length};
 ghost use Rattle.lg_netlist.specs.Names.{AreNames};
+ghost use Rattle.lg_netlist.specs.Acceptance.{IsRefused, IsAccepted};
 ghost use Rattle.lg_netlist.specs.Numbering.{IsNumbering};
+ghost use Rattle.lg_netlist.specs.declared.acceptance.NotAccepted.{NotAccepted};
+ghost use Rattle.lg_netlist.specs.declared.netlist.Netlist.{Netlist as Circuit};
 
 /// Labels have one naming.
 #[tactic(auto, using(crate::proofs::OneNaming::one_naming))]
@@ -26,4 +29,15 @@ pub fn labels_have_numbers()
 /// Labels have names, where there are fewer than 2 ^ 63.
 pub fn labels_have_names()
     ensures { (labels : List (List ℕ)) → length labels < 2 ^ 63 → (names : List (List ℕ)) × AreNames [] labels names }
+{}
+
+/// Each netlist is accepted, or refused for some reason.
+pub fn netlists_are_judged()
+    ensures { (n : Circuit) → IsAccepted n ⊎ ((fault : NotAccepted) × IsRefused n fault) }
+{}
+
+/// A netlist is refused for one reason, with one set of names; and one that is accepted for none.
+pub fn one_refusal()
+    ensures one { (n : Circuit) (fault other : NotAccepted) → IsRefused n fault → IsRefused n other → fault ≡ other }
+    ensures accepted { (n : Circuit) (fault : NotAccepted) → IsAccepted n → IsRefused n fault → ⊥ }
 {}

@@ -1,8 +1,8 @@
+mod chains;
 mod netlists;
 
 use super::*;
 use lg_text::Text;
-use netlists::{Gates, Pins, netlist};
 use std::alloc::{AllocError, Global};
 use std::test::Fail;
 
@@ -70,67 +70,6 @@ fn equal_labels_count_up(rt: HostRuntime) -> Result<(), Fail> {
     let names = pin_names(alloc, labels.as_slice())?;
     let last = names.get(1999).map(|name| name.as_str());
     assert_eq!(rt; last, Some("A_2000"));
-    Ok(())
-}
-
-#[test]
-fn one_gate_circuits(rt: HostRuntime) -> Result<(), Fail> {
-    let table: [(&'static str, Pins, Gates, bool); 10] = [
-        ("nothing at all", &[], &[], true),
-        (
-            "a gate between pins",
-            &[(true, 0), (false, 1)],
-            &[(Some(0), Some(1))],
-            true,
-        ),
-        (
-            "a gate that reads a gate",
-            &[(true, 0), (false, 2)],
-            &[(Some(0), Some(1)), (Some(1), Some(2))],
-            false,
-        ),
-        (
-            "two input pins on one net",
-            &[(true, 3), (true, 3)],
-            &[],
-            false,
-        ),
-        (
-            "a gate's output on an input pin's net",
-            &[(true, 0), (true, 1)],
-            &[(Some(0), Some(1))],
-            false,
-        ),
-        (
-            "two gates' outputs on one net",
-            &[(true, 0)],
-            &[(Some(0), Some(7)), (Some(0), Some(7))],
-            false,
-        ),
-        ("an unread output", &[(true, 0)], &[(Some(0), None)], true),
-        (
-            "an unattached input",
-            &[(true, 0), (false, 1)],
-            &[(None, Some(1))],
-            false,
-        ),
-        (
-            "an output pin on an input pin's net",
-            &[(false, 4), (true, 4)],
-            &[],
-            true,
-        ),
-        (
-            "an output pin on a net of its own",
-            &[(false, 4)],
-            &[],
-            false,
-        ),
-    ];
-    for (case, pins, gates, expected) in table {
-        let netlist = netlist(&rt, rt.alloc(), pins, gates)?;
-        assert_eq!(rt; netlist.is_one_gate(rt.alloc())?, expected, "{case}");
-    }
     Ok(())
 }
 

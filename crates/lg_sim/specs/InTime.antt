@@ -2,19 +2,11 @@
 -- Source: the library reference of Logisim-evolution, Gates, for what they answer; delays are this project's choice.
 use Rattle.std.specs.Prelude.{ℕ, List, [], ◌∷◌, ◌++◌, map, Option, Some, None, slice_get}
 use Rattle.lg_timing.specs.Circuit.{Word, Port, Part, Circuit}
-use Rattle.lg_netlist.specs.declared.netlist.Cell.{Cell}
-use Rattle.lg_netlist.specs.declared.netlist.Cell.TheVariants.{Not, And, Or}
 use Rattle.lg_netlist.specs.declared.netlist.PartUse.{PartUse}
 use Rattle.lg_netlist.specs.declared.netlist.PinUse.{PinUse}
 use Rattle.lg_netlist.specs.declared.netlist.Netlist.{Netlist}
-use Rattle.lg_netlist.specs.Cell.{cell_word}
+use Rattle.lg_netlist.specs.Cell.{cell_word, delay_of}
 use Rattle.lg_netlist.specs.Static.{input_pins, output_pins}
-
--- how many instants after its inputs a cell shows its output
-abbrev pub delay_of : Cell → ℕ
-delay_of Not = 1
-delay_of And = 1
-delay_of Or = 1
 
 -- a port of one bit, which is all that there is so far
 abbrev pub port_of : List ℕ → Port

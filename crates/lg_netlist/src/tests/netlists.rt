@@ -1,9 +1,9 @@
-//! Netlists of NOT gates for tests.
+//! Small netlists for tests.
 
-ghost use Rattle.std.specs.Prelude.{◌≡◌, ◌<◌, ◌^◌, length, map, All, IfOk, IsTrue};
+ghost use Rattle.std.specs.Prelude.{◌≡◌, ◌<◌, ◌^◌, ℕ, List, length, map, All, IfOk, IsTrue};
 ghost use Rattle.std.specs.List.{IsDistinct};
 ghost use Rattle.std.specs.Str.{bytes_eq};
-ghost use Rattle.lg_netlist.specs.Valid.{is_pin_name, IsPort, IsFittingPart, IsFittingPin};
+ghost use Rattle.lg_netlist.specs.Valid.{is_pin_name, TakesInputs, IsPort, IsFittingPart, IsFittingPin};
 
 use super::super::*;
 use lg_text::Text;
@@ -14,66 +14,97 @@ use std::process::Abort;
 /// Whether each pin is an input, and its net.
 pub type Pins = &'static [(bool, u32)];
 
-/// The nets of the input and of the output of each gate.
-pub type Gates = &'static [(Option<u32>, Option<u32>)];
+/// A gate: its kind, the nets of its inputs, and that of its output.
+pub type Gate = (Cell, &'static [Option<u32>], Option<u32>);
 
 const NETS: u32 = 8;
 
-/// A netlist of so many nets with these pins and gates.
+/// A netlist of eight nets with these pins, gates and clock. Pins are called `p0` and so on by their places, gates `g0`, and
+/// the clock `c`.
 pub fn netlist(
     rt: &impl Abort,
     alloc: Global,
     pins: Pins,
-    gates: Gates,
+    gates: &'static [Gate],
+    clock: Option<u32>,
 ) -> Result<Netlist, AllocError> {
     Ok(Netlist {
         circuit: Text::new(alloc),
-        parts: not_gates(rt, alloc, gates)?,
+        parts: gates_of(rt, alloc, gates)?,
         pins: pins_on(rt, alloc, pins)?,
-        clocks: Items::new(alloc),
+        clocks: clocks_on(rt, alloc, clock)?,
         nets: NETS,
         clock_pin: None,
     })
 }
 
-fn not_gates(rt: &impl Abort, alloc: Global, gates: Gates) -> Result<Items<PartUse>, AllocError>
+fn clocks_on(
+    rt: &impl Abort,
+    alloc: Global,
+    clock: Option<u32>,
+) -> Result<Items<(u32, Text)>, AllocError>
+    ensures few { IfOk result (λ clocks. length clocks < 2 ^ 32) }
+    ensures fit { IfOk result (λ clocks. All (λ (c : ℕ × List ℕ). c.0 < 8) clocks) }
+{
+    let mut clocks = Items::new(alloc);
+    if let Some(net) = clock {
+        assert!(rt; net < NETS);
+        clocks.push((net, Text::copy_of(alloc, "c")?))?;
+    }
+    Ok(clocks)
+}
+
+fn gates_of(
+    rt: &impl Abort,
+    alloc: Global,
+    gates: &'static [Gate],
+) -> Result<Items<PartUse>, AllocError>
     ensures few { IfOk result (λ parts. length parts < 2 ^ 32) }
     ensures fit { IfOk result (λ parts. All (IsFittingPart 8) parts) }
 {
     assert!(rt; gates.len() < 100);
     let mut parts = Items::new(alloc);
-    for (from, to) in gates {
-        parts.push(not_gate(rt, alloc, *from, *to)?)?;
+    for gate in gates {
+        let name = Text::from_string(format!(in alloc; "g{}", parts.len())?);
+        parts.push(gate_of(rt, alloc, name, *gate)?)?;
     }
     Ok(parts)
 }
 
-fn not_gate(
-    rt: &impl Abort,
-    alloc: Global,
-    from: Option<u32>,
-    to: Option<u32>,
-) -> Result<PartUse, AllocError>
+fn gate_of(rt: &impl Abort, alloc: Global, name: Text, gate: Gate) -> Result<PartUse, AllocError>
     ensures { IfOk result (λ p. IsFittingPart 8 p) }
 {
+    let (cell, inputs, output) = gate;
+    assert!(rt; takes(cell, inputs.len()));
     Ok(PartUse {
-        name: Text::new(alloc),
-        cell: Cell::Not,
-        inputs: one_port(rt, alloc, from)?,
-        outputs: one_port(rt, alloc, to)?,
+        name,
+        cell,
+        inputs: ports(rt, alloc, inputs)?,
+        outputs: ports(rt, alloc, &[output])?,
     })
 }
 
-fn one_port(
+fn takes(cell: Cell, inputs: usize) -> bool
+    ensures { IsTrue result → TakesInputs cell inputs }
+{
+    match cell {
+        Cell::Not => inputs == 1,
+        Cell::And | Cell::Or => 2 <= inputs && inputs <= 64,
+    }
+}
+
+fn ports(
     rt: &impl Abort,
     alloc: Global,
-    net: Option<u32>,
+    nets: &[Option<u32>],
 ) -> Result<Items<Items<u32>>, AllocError>
-    ensures one { IfOk result (λ ports. length ports ≡ 1) }
+    ensures one_each { IfOk result (λ ports. length ports ≡ length nets.now) }
     ensures fit { IfOk result (λ ports. All (IsPort 8) ports) }
 {
     let mut ports = Items::new(alloc);
-    ports.push(port(rt, alloc, net)?)?;
+    for net in nets {
+        ports.push(port(rt, alloc, *net)?)?;
+    }
     Ok(ports)
 }
 
@@ -90,6 +121,7 @@ fn port(rt: &impl Abort, alloc: Global, net: Option<u32>) -> Result<Items<u32>, 
 }
 
 fn pins_on(rt: &impl Abort, alloc: Global, places: Pins) -> Result<Items<PinUse>, AllocError>
+    ensures few { IfOk result (λ pins. length pins < 2 ^ 32) }
     ensures fit { IfOk result (λ pins. All (IsFittingPin 8) pins) }
     ensures differ { IfOk result (λ pins. IsDistinct bytes_eq (map (λ p. p.name) pins)) }
 {
@@ -102,6 +134,7 @@ fn pins_on(rt: &impl Abort, alloc: Global, places: Pins) -> Result<Items<PinUse>
     for name in names.as_slice() {
         pins.push(pin(rt, alloc, name, places, pins.len())?)?;
     }
+    assert!(rt; pins.len() < 100);
     Ok(pins)
 }
 
@@ -121,7 +154,7 @@ fn pin(
     assert!(rt; net < NETS);
     Ok(PinUse {
         name: Text::copy_of(alloc, name.as_str())?,
-        place: Text::new(alloc),
+        place: Text::from_string(format!(in alloc; "p{at}")?),
         input,
         bits: Items::from_slice(alloc, &[net])?,
     })

@@ -2,7 +2,7 @@
 use Rattle.std.proofs.Common.{sym, subst}
 use Rattle.lg.specs.Outcome.{Ends}
 use Rattle.lg.specs.Words.{words_of}
-use Rattle.lg.proofs.Dues.{prefix_written, complete_written, complete_stopped}
+use Rattle.lg.proofs.Dues.{prefix_written, complete_written, complete_stopped, said_stopped}
 use Rattle.lg.proofs.run.run.Goals as goal
 
 pub returns-in-Ok-clause-prefix : goal.returns-in-Ok-clause-prefix
@@ -24,3 +24,8 @@ pub returns-in-Err-clause-complete : goal.returns-in-Err-clause-complete
 returns-in-Err-clause-complete g c =
     complete_stopped (words_of c.args.words.now) c.in-Some.file.now (g.F.Files.seen c.args.files.now) (g.F.Files.seen c.export.new.files)
     (g.O.Sink.seen c.args.out.now) (g.O.Sink.seen c.args.out.now) c.in-Err.stop c.end-in-Err.result (sym c.in-Some.ensures) c.end-in-Err.ensures.status c.in-Err.ensures.exports
+
+pub returns-in-Err-clause-said : goal.returns-in-Err-clause-said
+returns-in-Err-clause-said g c =
+    said_stopped (words_of c.args.words.now) c.in-Some.file.now (g.F.Files.seen c.args.files.now) (g.F.Files.seen c.export.new.files)
+    (g.E.Sink.seen c.args.err.now) (g.E.Sink.seen c.end-in-Err.new.err) c.in-Err.stop c.end-in-Err.result (sym c.in-Some.ensures) c.end-in-Err.ensures.status c.in-Err.ensures.exports c.end-in-Err.ensures.said

@@ -1,4 +1,4 @@
-use Rattle.lg_circ.proofs.Elements.{same_tree}
+use Rattle.lg_circ.proofs.Decided.{same_tree}
 use Rattle.lg_circ.proofs.law.one_tree.Goals as goal
 
 pub returns : goal.returns

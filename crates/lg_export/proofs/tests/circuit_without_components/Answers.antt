@@ -8,6 +8,8 @@ use Rattle.lg_export.proofs.tests.circuit_without_components.Goals as goal
 none_valid : IsValid [] [] [] 0 None
 none_valid = record {
   few_parts = lit< tt;
+  few_pins = lit< tt;
+  few_clocks = lit< tt;
   parts_fit = All-nil (IsFittingPart 0);
   pins_fit = All-nil (IsFittingPin 0);
   clocks_fit = All-nil (λ (c : ℕ × List ℕ). c.0 < 0);
