@@ -1,6 +1,6 @@
 #!/usr/bin/env bash
-# Times `lg export` of one-gate circuits of 100, 1,000 and 10,000 gates: the best of three runs each, as ratios to the first.
-# All gates read the pins A and B from two upright wires, which the branches cross; each has an output pin of its own.
+# Times `lg export` of wide circuits of 100, 1,000 and 10,000 gates and of chains of 1,000, 10,000 and 60,000: the best of
+# three runs each, as ratios to the first.
 set -u
 cd "$(dirname "$0")/.." || exit 1
 program=$PWD/crates/lg/out/lg
@@ -8,7 +8,8 @@ program=$PWD/crates/lg/out/lg
 folder=$(mktemp -d) || exit 1
 trap 'rm -rf "$folder"' EXIT
 
-circuit() {
+# All gates read the pins A and B from two upright wires, which the branches cross; each has an output pin of its own.
+wide() {
   awk -v gates="$1" 'BEGIN {
     print "<project><lib desc=\"#Wiring\" name=\"0\"/><lib desc=\"#Gates\" name=\"1\"/><circuit name=\"main\">"
     print "<comp lib=\"0\" loc=\"(10,0)\" name=\"Pin\"><a name=\"label\" val=\"A\"/></comp>"
@@ -19,6 +20,26 @@ circuit() {
       printf "<comp lib=\"1\" loc=\"(100,%d)\" name=\"%s Gate\"/>", y, k % 2 ? "OR" : "AND"
       printf "<comp lib=\"0\" loc=\"(100,%d)\" name=\"Pin\"><a name=\"output\" val=\"true\"/><a name=\"label\" val=\"Y\"/></comp>", y
       printf "<wire from=\"(10,%d)\" to=\"(50,%d)\"/><wire from=\"(20,%d)\" to=\"(50,%d)\"/>\n", y - 20, y - 20, y + 20, y + 20
+    }
+    print "</circuit></project>"
+  }'
+}
+
+# A chain of NOT gates, in rows of 10,000. The last gate stands first, so that each reads one that stands behind it.
+chain() {
+  awk -v gates="$1" 'BEGIN {
+    row = 10000
+    print "<project><lib desc=\"#Wiring\" name=\"0\"/><lib desc=\"#Gates\" name=\"1\"/><circuit name=\"main\">"
+    print "<comp lib=\"0\" loc=\"(0,0)\" name=\"Pin\"><a name=\"label\" val=\"A\"/></comp>"
+    for (k = gates - 1; k >= 0; k--)
+      printf "<comp lib=\"1\" loc=\"(%d,%d)\" name=\"NOT Gate\"/>\n", 30 * (k % row + 1), 100 * int(k / row)
+    last = gates - 1
+    printf "<comp lib=\"0\" loc=\"(%d,%d)\" name=\"Pin\">", 30 * (last % row + 1), 100 * int(last / row)
+    print "<a name=\"output\" val=\"true\"/><a name=\"label\" val=\"Y\"/></comp>"
+    for (y = 0; y < 100 * int(last / row); y += 100) {
+      printf "<wire from=\"(%d,%d)\" to=\"(%d,%d)\"/>", 30 * row, y, 30 * row, y + 50
+      printf "<wire from=\"(0,%d)\" to=\"(%d,%d)\"/>", y + 50, 30 * row, y + 50
+      printf "<wire from=\"(0,%d)\" to=\"(0,%d)\"/>\n", y + 50, y + 100
     }
     print "</circuit></project>"
   }'
@@ -38,10 +59,18 @@ best() {
   echo "$least"
 }
 
-first=
-for gates in 100 1000 10000; do
-  circuit "$gates" >"$folder/$gates.circ"
-  took=$(best "$folder/$gates.circ")
-  first=${first:-$took}
-  awk -v gates="$gates" -v took="$took" -v first="$first" 'BEGIN { printf "%6d gates  %8.1f ms  ratio %.1f\n", gates, took / 1000, took / first }'
-done
+# A shape of circuit, and its sizes.
+compare() {
+  local shape=$1 gates took first=
+  shift
+  for gates in "$@"; do
+    "$shape" "$gates" >"$folder/$gates.circ"
+    took=$(best "$folder/$gates.circ")
+    first=${first:-$took}
+    awk -v shape="$shape" -v gates="$gates" -v took="$took" -v first="$first" \
+      'BEGIN { printf "%-5s %6d gates  %8.1f ms  ratio %.1f\n", shape, gates, took / 1000, took / first }'
+  done
+}
+
+compare wide 100 1000 10000
+compare chain 1000 10000 60000

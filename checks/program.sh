@@ -8,6 +8,8 @@ folder=$(mktemp -d) || exit 1
 trap 'rm -rf "$folder"' EXIT
 cp examples/not.circ "$folder/not.circ"
 echo '<project/>' > "$folder/empty.circ"
+echo 'no project' > "$folder/text.circ"
+echo '<project><lib desc="#Gates" name="1"/><circuit name="main"><comp lib="1" loc="(130,60)" name="NOT Gate"/></circuit></project>' > "$folder/loose.circ"
 head -c 8388609 /dev/zero > "$folder/long.circ"
 mkdir "$folder/folder.circ"
 cd "$folder" || exit 1
@@ -36,7 +38,9 @@ expect 2 "$usage" out export not.circ not.circ
 expect 2 "$usage" out $'export' $'\xff'
 expect 3 'lg: input: none.circ: Missing' out export none.circ
 expect 3 'lg: input: empty.circ: NotBuilt' out export empty.circ
+expect 3 'lg: input: text.circ: NotProject' out export text.circ
 expect 3 'lg: input: long.circ: TooLong' out export long.circ
+expect 4 'lg: not accepted: Undriven main(130,60) NOT Gate in' out export loose.circ
 expect 5 'lg: read fault: folder.circ' out export folder.circ
 expect 6 'lg: write fault' /dev/full export not.circ
 exit $failed
