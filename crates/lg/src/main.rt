@@ -1,20 +1,11 @@
 //! `lg`: exports the circuits that digital design classes draw.
 #![tactic(auto)]
 
-mod export;
-mod law;
-mod one_sheet;
-mod run;
-mod status;
-mod stop;
-mod words;
-
 use lg_io::{HostFiles, StdSink};
-use run::run;
+use lg_run::{Stop, run};
 use std::env;
 use std::io::ErrorKind;
 use std::process::ExitCode;
-use stop::Stop;
 
 fn main(rt: HostRuntime) -> ExitCode {
     let mut err = StdSink::new(rt.stderr());
@@ -38,6 +29,3 @@ fn command_words(rt: &HostRuntime) -> Result<Vec<String>, Stop> {
         Err(_) => Err(Stop::Usage),
     }
 }
-
-#[cfg(test)]
-mod tests;

@@ -10,9 +10,9 @@ use std::alloc::{AllocError, AllocFailed};
 pub enum CircFault {
     /// The text has more than `GREATEST_LENGTH` bytes.
     TooLong,
-    /// The text spells elements in more than 64 levels.
+    /// The bytes spell elements, of which some stand in level 65.
     TooDeep,
-    /// The text says no project.
+    /// The bytes spell no elements, or elements in at most 64 levels that are no project.
     NotProject,
     /// There was no memory.
     Memory,

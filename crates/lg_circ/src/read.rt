@@ -25,7 +25,7 @@ pub fn read_project(alloc: Global, bytes: &[u8]) -> Result<Project, CircFault>
     ensures found { IfOk result (λ p. SaysProject bytes.now p) }
     ensures within { OnOk result (length bytes.now ≤ GREATEST_LENGTH) }
     ensures few { IfOk result (λ project. All (λ sheet. length sheet.comps + length sheet.wires ≤ length bytes.now) project.sheets) }
-    // A project is read as what it says, unless memory runs out. So bytes say at most one project.
+    // A project is read as what it says, unless memory runs out.
     ensures only { (p : Project) →
         SaysProject bytes.now p → length bytes.now ≤ GREATEST_LENGTH → ReadsAs p result }
 

@@ -1,4 +1,4 @@
-//! Texts and the projects that they say, and texts that are refused.
+//! Texts and the projects that they say. Texts that are refused are cases of `lg_cases`.
 
 use super::*;
 use std::alloc::{AllocError, Global};
@@ -105,321 +105,36 @@ fn projects_are_read(rt: HostRuntime) -> Result<(), Fail> {
 }
 
 #[test]
-fn each_spelling_is_read(rt: HostRuntime) -> Result<(), Fail> {
+fn options_set_the_limit(rt: HostRuntime) -> Result<(), Fail> {
     let cases = [
-        (
-            "\u{feff}<project><lib name='0' desc='mark'/></project>",
-            "mark",
-        ),
-        (
-            "<?xml ?><project><lib name='0' desc='declared'/></project>",
-            "declared",
-        ),
-        (
-            "\u{feff}<?xml\t?a>?><project><lib name='0' desc='both'/></project>",
-            "both",
-        ),
-        (
-            "\r\n\t <!-- a --><project><lib name='0' desc='misc'/></project><!-- b -->\n",
-            "misc",
-        ),
-        (
-            "<project><!----><lib name='0' desc='empty comment'/><!-- a ---></project>",
-            "empty comment",
-        ),
-        (
-            "<project><!-----><lib name='0' desc='a dash'/><!---> --></project>",
-            "a dash",
-        ),
-        (
-            "<project><!-- < & > &no; <a --><lib name='0' desc='marks in it'/></project>",
-            "marks in it",
-        ),
-        (
-            "<project\n><lib\tname\r=\n'0' desc = \"gaps\" /></project\t>",
-            "gaps",
-        ),
-        (
-            "<project a:b='' _c-1.2=''><lib desc=\"it's\" name='0'/></project>",
-            "it's",
-        ),
-        (
-            "<project>text > ' \" ]]> \u{0}<lib desc='>\"\n' name='0'></lib></project>",
-            ">\"\n",
-        ),
-        (
-            "<project><lib name='0' desc='&lt;&gt;&amp;&quot;&apos;'/></project>",
-            "<>&\"'",
-        ),
-        (
-            "<project><lib name='0' desc='&#65;&#x41;&#x4a;&#x4A;&#0065;'/></project>",
-            "AAJJA",
-        ),
-        (
-            "<project><lib name='0' desc='&#0;&#x10FFFF;&#xD7ff;&#xe000;'/></project>",
-            "\u{0}\u{10ffff}\u{d7ff}\u{e000}",
-        ),
-        (
-            "<project><lib name='0' desc='&#8364;\u{20ac}\u{1f600}'/></project>",
-            "\u{20ac}\u{20ac}\u{1f600}",
-        ),
-        (
-            "<project>&#60;&amp;<lib name='0' desc='characters'/></project>",
-            "characters",
-        ),
-        (
-            "<project><x:Y-.0><lib/></x:Y-.0><lib name='0' desc='others'/></project>",
-            "others",
-        ),
-    ];
-    for (text, want) in cases {
-        let project = read_project(rt.alloc(), text.as_bytes())?;
-        let libs = project.libs.as_slice();
-        assert_eq!(rt; libs.len(), 1);
-        assert_eq!(rt; libs[0].1.as_str(), want);
-    }
-    Ok(())
-}
-
-#[test]
-fn options_set_the_limit_and_the_error(rt: HostRuntime) -> Result<(), Fail> {
-    let cases = [
-        ("<a name='simlimit' val='1'/>", 1, false),
-        ("<a name='simlimit' val='1000000'/>", 1_000_000, false),
-        ("<a name='simlimit' val='000000000064'/>", 64, false),
-        ("<a name='simlimit'>12</a>", 12, false),
-        ("<a name='simlimit' val='0'/>", 1000, false),
-        ("<a name='simlimit' val='1000001'/>", 1000, false),
-        (
-            "<a name='simlimit' val='99999999999999999999999999'/>",
-            1000,
-            false,
-        ),
-        ("<a name='simlimit' val='+5'/>", 1000, false),
-        ("<a name='simlimit' val=''/>", 1000, false),
+        ("<a name='simlimit' val='1000000'/>", 1_000_000),
+        ("<a name='simlimit'>0012</a>", 12),
+        ("<a name='simlimit' val='0'/>", 1000),
+        ("<a name='simlimit' val='1000001'/>", 1000),
+        ("<a name='simlimit' val='99999999999999999999'/>", 1000),
+        ("<a name='simlimit' val='+5'/>", 1000),
         (
             "<a name='simlimit' val='x'/><a name='simlimit' val='7'/>",
             1000,
-            false,
         ),
         (
             "<a name='simlimit' val='7'/><a name='simlimit' val='8'/>",
             7,
-            false,
-        ),
-        ("<a name='gateUndefined' val='error'/>", 1000, true),
-        ("<a name='gateUndefined'>error</a>", 1000, true),
-        ("<a name='gateUndefined' val='Error'/>", 1000, false),
-        (
-            "<a name='gateUndefined' val='ignore'/><a name='gateUndefined' val='error'/>",
-            1000,
-            false,
         ),
     ];
-    for (options, limit, strict) in cases {
+    for (options, limit) in cases {
         let text = format!(in rt.alloc(); "<project><options>{options}</options></project>")?;
         let project = read_project(rt.alloc(), text.as_bytes())?;
         assert_eq!(rt; project.limit, limit, "{options}");
-        assert_eq!(rt; project.strict, strict, "{options}");
     }
     Ok(())
 }
 
 #[test]
-fn other_texts_are_no_projects(rt: HostRuntime) {
-    let cases = [
-        ("nothing", ""),
-        ("another root", "<projects/>"),
-        ("two roots", "<project/><project/>"),
-        ("text before", "a<project/>"),
-        ("text after", "<project/>a"),
-        ("a reference after", "<project/>&#32;"),
-        ("a form feed before", "\u{c}<project/>"),
-        ("a mark of order twice", "\u{feff}\u{feff}<project/>"),
-        ("a declaration without a gap", "<?xml?><project/>"),
-        (
-            "a declaration without an end",
-            "<?xml version='1.0'><project/>",
-        ),
-        ("a declaration after white space", " <?xml ?><project/>"),
-        ("a second declaration", "<?xml ?><?xml ?><project/>"),
-        ("a declaration inside", "<project><?xml ?></project>"),
-        ("a comment in a tag", "<project <!-- a -->></project>"),
-        (
-            "a comment with two dashes",
-            "<project><!-- a -- b --></project>",
-        ),
-        ("a comment that is too short", "<project><!---></project>"),
-        ("a comment without an end", "<project/><!-- a --"),
-        ("no last tag", "<project>"),
-        ("a last tag of another name", "<project><a></b></project>"),
-        ("last tags that cross", "<project><a><b></a></b></project>"),
-        ("a last tag too many", "<project></project></project>"),
-        (
-            "a last tag with a gap before its name",
-            "<project></ project>",
-        ),
-        ("a name that begins with a digit", "<project><0/></project>"),
-        ("a name beyond ASCII", "<project><\u{e9}/></project>"),
-        ("a tag without a name", "<project>< /></project>"),
-        ("a `<` in a value", "<project a='<'/>"),
-        ("a value without quotes", "<project a=b/>"),
-        ("a value in two quotes", "<project a='b\"/>"),
-        ("attributes without a gap", "<project a='b'c='d'/>"),
-        ("an attribute twice", "<project a='b' c='d' a='b'/>"),
-        (
-            "an attribute twice deep inside",
-            "<project><x><y a='' a=''/></x></project>",
-        ),
-        ("an unknown reference", "<project>&nbsp;</project>"),
-        ("a reference without an end", "<project>&amp</project>"),
-        ("a reference without a name", "<project>&;</project>"),
-        ("a bare ampersand", "<project a='&'/>"),
-        ("a number without digits", "<project>&#;</project>"),
-        (
-            "a hexadecimal number without digits",
-            "<project>&#x;</project>",
-        ),
-        ("a capital X", "<project>&#X41;</project>"),
-        ("a letter in a decimal number", "<project>&#6a;</project>"),
-        ("a surrogate", "<project a='&#xD800;'/>"),
-        ("the last surrogate", "<project a='&#57343;'/>"),
-        ("past the last character", "<project>&#x110000;</project>"),
-        (
-            "far past the last character",
-            "<project>&#4294967361;</project>",
-        ),
-        (
-            "a library without a name",
-            "<project><lib desc='d'/></project>",
-        ),
-        ("a circuit without a name", "<project><circuit/></project>"),
-        (
-            "a component without a name",
-            "<project><circuit name='c'><comp loc='(0,0)'/></circuit></project>",
-        ),
-        (
-            "a component without a place",
-            "<project><circuit name='c'><comp name='Pin'/></circuit></project>",
-        ),
-        (
-            "a setting without a name",
-            "<project><circuit name='c'><comp name='Pin' loc='(0,0)'><a val='v'/></comp></circuit></project>",
-        ),
-        (
-            "an option without a name",
-            "<project><options><a val='v'/></options></project>",
-        ),
-        (
-            "a wire without a start",
-            "<project><circuit name='c'><wire to='(0,0)'/></circuit></project>",
-        ),
-        (
-            "a wire without an end",
-            "<project><circuit name='c'><wire from='(0,0)'/></circuit></project>",
-        ),
-        (
-            "a point with a space",
-            "<project><circuit name='c'><wire from='(0, 0)' to='(0,0)'/></circuit></project>",
-        ),
-        (
-            "a point with a plus",
-            "<project><circuit name='c'><wire from='(+1,0)' to='(0,0)'/></circuit></project>",
-        ),
-        (
-            "a point of eight digits",
-            "<project><circuit name='c'><wire from='(00000001,0)' to='(0,0)'/></circuit></project>",
-        ),
-        (
-            "a point too far out",
-            "<project><circuit name='c'><comp name='Pin' loc='(1000001,0)'/></circuit></project>",
-        ),
-        (
-            "a point without a number",
-            "<project><circuit name='c'><wire from='(,0)' to='(0,0)'/></circuit></project>",
-        ),
-        (
-            "a point with a second end",
-            "<project><circuit name='c'><wire from='(0,0))' to='(0,0)'/></circuit></project>",
-        ),
-    ];
-    for (what, text) in cases {
-        let result = read_project(rt.alloc(), text.as_bytes());
-        assert!(rt; matches!(result, Err(CircFault::NotProject)), "{what}");
-    }
-    for bytes in [
-        b"<project a='\xff'/>".as_slice(),
-        b"<project><!-- \xc3 --></project>",
-    ] {
-        assert!(rt; matches!(read_project(rt.alloc(), bytes), Err(CircFault::NotProject)));
-    }
-}
-
-#[test]
-fn a_text_that_is_cut_is_no_project(rt: HostRuntime) {
-    let text = AND_NOT.trim_end().as_bytes();
-    for end in 0..text.len() {
-        let result = read_project(rt.alloc(), &text[..end]);
-        assert!(rt;
-            matches!(result, Err(CircFault::NotProject)),
-            "cut at {end}"
-        );
-    }
-}
-
-/// A project with so many elements, each in the one before, around a text.
-fn nested(alloc: Global, elements: usize, inside: &str) -> Result<String, AllocError> {
-    let mut text = String::from_str(alloc, "<project>")?;
-    for _ in 0..elements {
-        text.push_str("<x>")?;
-    }
-    text.push_str(inside)?;
-    for _ in 0..elements {
-        text.push_str("</x>")?;
-    }
-    text.push_str("</project>")?;
-    Ok(text)
-}
-
-#[test]
-fn a_level_too_many_is_told_of_elements_alone(rt: HostRuntime) -> Result<(), Fail> {
-    let cases = [
-        (63, "", None),
-        (62, "<y/>", None),
-        (64, "", Some(CircFault::TooDeep)),
-        (63, "<y/>", Some(CircFault::TooDeep)),
-        (63, "<y></y>", Some(CircFault::TooDeep)),
-        (64, "<lib/><circuit/>", Some(CircFault::TooDeep)),
-        (64, "</y>", Some(CircFault::NotProject)),
-        (64, "<y a='' a=''/>", Some(CircFault::NotProject)),
-        (64, "&#xD800;", Some(CircFault::NotProject)),
-        (100_000, "", Some(CircFault::TooDeep)),
-        (100_000, "<", Some(CircFault::NotProject)),
-    ];
-    for (elements, inside, want) in cases {
-        let text = nested(rt.alloc(), elements, inside)?;
-        let fault = read_project(rt.alloc(), text.as_bytes()).err();
-        assert_eq!(rt; fault, want, "{elements} elements around {inside}");
-    }
-    let text = nested(rt.alloc(), 64, "")?;
-    let behind = format!(in rt.alloc(); "{text}<a/>")?;
-    let fault = read_project(rt.alloc(), behind.as_bytes()).err();
+fn bytes_that_are_no_text_are_no_project(rt: HostRuntime) {
+    let bytes = b"<project a='\xff'/>".as_slice();
+    let fault = read_project(rt.alloc(), bytes).err();
     assert_eq!(rt; fault, Some(CircFault::NotProject));
-    Ok(())
-}
-
-#[test]
-fn many_attributes_differ(rt: HostRuntime) -> Result<(), Fail> {
-    let mut text = String::from_str(rt.alloc(), "<project><lib name='0'")?;
-    for number in 0..1000 {
-        write!(text, " a{number}=''")?;
-    }
-    let read = format!(in rt.alloc(); "{text}/></project>")?;
-    assert_eq!(rt; read_project(rt.alloc(), read.as_bytes())?.libs.len(), 1);
-    let twice = format!(in rt.alloc(); "{text} a500=''/></project>")?;
-    let fault = read_project(rt.alloc(), twice.as_bytes()).err();
-    assert_eq!(rt; fault, Some(CircFault::NotProject));
-    Ok(())
 }
 
 #[test]

@@ -5,8 +5,6 @@ pub mod NameLemmas
 pub mod NextLemmas
 pub mod SpelledLemmas
 pub mod PinLemmas
-pub mod MarkLemmas
-pub mod OneGateLemmas
 pub mod SomeNumbers
 pub mod SomeNames
 pub mod DriverLemmas

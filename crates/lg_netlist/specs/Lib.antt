@@ -4,7 +4,6 @@ pub mod Numbering
 pub mod Cell
 pub mod Valid
 pub mod OneGate
-pub mod Marks
 pub mod Static
 pub mod Drivers
 pub mod FirstTwo

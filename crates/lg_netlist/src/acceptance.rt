@@ -41,6 +41,7 @@ impl From<AllocError> for NotAccepted {
 
 impl Netlist {
     /// Whether the netlist can be exported, and else why not: the first that holds of `ManyDrivers`, `Undriven` and `Cycle`.
+    /// Clocks are not judged yet.
     pub fn check_export(&self, alloc: Global) -> Result<(), NotAccepted>
         ensures accepted { IsOk result → IsAccepted self.now }
         ensures refused { IfErr result (λ fault. (fault ≡ refusal.Memory) ⊎ IsRefused self.now fault) }

@@ -21,7 +21,7 @@ pub enum Driver {
 
 impl Netlist {
     /// The drivers of a net: outputs of parts, then input pins, then clocks, each by rising numbers. A bit of an output
-    /// counts for each time that it stands on the net. It takes time in the netlist's size.
+    /// counts for each time that it stands on the net.
     pub fn drivers(&self, alloc: Global, net: u32) -> Result<Vec<Driver>, AllocError>
         ensures { IfOk result (λ found. found.items ≡ drivers self.now net) }
     {

@@ -10,7 +10,6 @@ mod longest;
 mod names;
 mod netlist;
 mod numbering;
-mod one_gate;
 mod order;
 mod pins;
 

@@ -6,7 +6,7 @@ ghost use Rattle.lg_netlist.specs.Numbering.{IsNumbering, NumbersNext};
 use std::alloc::{AllocError, Global};
 
 /// Numbers from 0 for labels, in the order in which they first appear, and how many there are. Equal labels, and no
-/// others, have one number. Its time is linear in the number of labels and in the bound.
+/// others, have one number.
 pub fn numbered(alloc: Global, labels: &[u32], bound: usize) -> Result<(Vec<u32>, u32), AllocError>
     requires few { length labels.now < 2 ^ 32 }
     requires small { All (λ label. label < bound) labels.now }

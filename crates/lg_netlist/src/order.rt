@@ -29,7 +29,7 @@ impl From<AllocError> for OrderFault {
 
 impl Netlist {
     /// All pairs of a part and one of its outputs, each once and after those that it reads; or the first part with an output
-    /// from which a chain leads back to it. It takes time in the netlist's size, and no recursion.
+    /// from which a chain leads back to it. It does not recurse.
     pub fn order(&self, alloc: Global) -> Result<Vec<(u32, u32)>, OrderFault>
         ensures order { IfOk result (λ found. IsOrder self.now found.items) }
         ensures cycle { (part : ℕ) → IsErrOf result (OrderFault.Cycle part) → IsFirstOnCycle self.now part }

@@ -1,0 +1,189 @@
+-- Exactly one thing is due for words and contents.
+use Rattle.std.proofs.Common.{◌≡◌, ℕ, ◌^◌, ◌<◌, ◌≤◌, Bool, true, false, List, [], ◌∷◌, length, Option, Some, None, refl, sym, ap, subst, ◌∙◌, arith, inl, inr, ◌⊎◌}
+use Rattle.std.specs.Prelude.{nat_lt, MatchBool, All}
+use Rattle.std.specs.List.{list_all, zip}
+use Rattle.std.proofs.lemmas.Bool.{false≢true, ltb-false}
+use Rattle.lg_circ.specs.declared.project.Sheet.{Sheet}
+use Rattle.lg_circ.specs.declared.project.Project.{Project}
+use Rattle.lg_circ.specs.declared.read.TheConstants.{GREATEST_LENGTH}
+use Rattle.lg_circ.specs.Project.{SaysProject, IsTooDeep}
+use Rattle.lg_circ.specs.Straight.{is_straight}
+use Rattle.lg_circ.proofs.Decided.{says_or_not, deep_or_not, one_project, deep_says_none}
+use Rattle.lg_circ.proofs.Few.{IsFew, project_few}
+use Rattle.lg_netlist.specs.declared.acceptance.NotAccepted.{NotAccepted as Refused}
+use Rattle.lg_netlist.specs.declared.netlist.Netlist.{Netlist}
+use Rattle.lg_netlist.specs.Acceptance.{IsAccepted, IsRefused}
+use Rattle.lg_netlist.proofs.Judged.{judged}
+use Rattle.lg_netlist.proofs.OneRefusal.{one_refusal, accepted_not_refused}
+use Rattle.lg_flatten.specs.declared.role.Role.{Role}
+use Rattle.lg_flatten.specs.Uses.{roles_of}
+use Rattle.lg_flatten.proofs.OneNetlist.{one_netlist}
+use Rattle.lg_flatten.proofs.SomeNetlist.{netlist_exists}
+use Rattle.lg_export.specs.Layout.{module_of}
+use Rattle.lg_verilog.specs.Printed.{module_text}
+use Rattle.lg_run.specs.declared.status.Status.{Status}
+use Rattle.lg_run.specs.declared.status.Status.TheVariants.{Done}
+use Rattle.lg_run.specs.declared.stop.Refusal.TheVariants.{Missing, TooLong, TooDeep, NotProject, NotBuilt}
+use Rattle.lg_run.specs.declared.stop.Stop.{Stop}
+use Rattle.lg_run.specs.declared.stop.Stop.TheVariants.{Usage, Input, NotAccepted, ReadFault, WriteFault, Memory}
+use Rattle.lg_run.specs.Due.{Held, Due, Writes, Stops, IsModuleText, IsRefusedText, IsNoModule, IsModuleDue, IsExportDue, IsCommandDue, IsDue}
+use Rattle.lg_run.specs.OneSheet.{IsBuilt, opens_with}
+use Rattle.lg_run.specs.Words.{Command, Export, command_of}
+use Rattle.lg_run.proofs.OneSheetLemmas.{head_is, one_built}
+
+-- the project has a circuit that is built, or none
+abbrev BuiltOrNot : Project → Type 0
+BuiltOrNot project = ((n : Netlist) × IsBuilt project n) ⊎ ((n : Netlist) → IsBuilt project n → ⊥)
+
+-- with one sheet of known roles, its wires decide
+by_straight : (project : Project) (sheet : Sheet) (roles : List Role) → length sheet.comps < 2 ^ 32 → project.sheets ≡ sheet ∷ [] → roles_of project.libs sheet.comps ≡ Some roles
+    → opens_with project sheet ≡ true → (b : Bool) → list_all is_straight sheet.wires ≡ b → BuiltOrNot project
+by_straight project sheet roles few one known opens true s =
+    let found = netlist_exists sheet roles few in
+    inl (found.0, record { sheet = sheet; roles = roles; only_sheet = one; opens = opens; roles_are = known; straight = s; netlist = found.1 })
+by_straight project sheet roles few one known opens false s =
+    inr (λ n b. false≢true (sym s ∙ (ap (λ (x : Sheet). list_all is_straight x.wires) (head_is sheet b.sheet (sym one ∙ b.only_sheet)) ∙ b.straight)))
+
+by_roles : (project : Project) (sheet : Sheet) → opens_with project sheet ≡ true → length sheet.comps < 2 ^ 32 → project.sheets ≡ sheet ∷ [] → (o : Option (List Role)) → roles_of project.libs sheet.comps ≡ o → BuiltOrNot project
+by_roles project sheet opens few one (Some roles) k = by_straight project sheet roles few one k opens (list_all is_straight sheet.wires) refl
+by_roles project sheet opens few one None k =
+    inr (λ n b. let e : None ≡ Some b.roles = sym k ∙ (ap (λ (x : Sheet). roles_of project.libs x.comps) (head_is sheet b.sheet (sym one ∙ b.only_sheet)) ∙ b.roles_are) in absurd cc)
+
+by_opening : (project : Project) (sheet : Sheet) → length sheet.comps < 2 ^ 32 → project.sheets ≡ sheet ∷ [] → (b : Bool) → opens_with project sheet ≡ b → BuiltOrNot project
+by_opening project sheet few one true o = by_roles project sheet o few one (roles_of project.libs sheet.comps) refl
+by_opening project sheet few one false o =
+    inr (λ n b. false≢true (sym o ∙ (ap (opens_with project) (head_is sheet b.sheet (sym one ∙ b.only_sheet)) ∙ b.opens)))
+
+by_sheets : (project : Project) (sheets : List Sheet) → project.sheets ≡ sheets → ((sheet : Sheet) → sheets ≡ sheet ∷ [] → length sheet.comps < 2 ^ 32) → BuiltOrNot project
+by_sheets project [] e few = inr (λ n b. let f : [] ≡ b.sheet ∷ [] = sym e ∙ b.only_sheet in absurd (omega (arith, ap length f)))
+by_sheets project (sheet ∷ []) e few = by_opening project sheet (few sheet refl) e (opens_with project sheet) refl
+by_sheets project (sheet ∷ other ∷ more) e few = inr (λ n b. let f : sheet ∷ other ∷ more ≡ b.sheet ∷ [] = sym e ∙ b.only_sheet in absurd (omega (arith, ap length f)))
+
+-- bytes have the text of a module, or there is a stop that says why not
+abbrev TextOrNot : List ℕ → Type 0
+TextOrNot bytes = ((text : List ℕ) × IsModuleText bytes text) ⊎ ((stop : Stop) × IsNoModule bytes stop)
+
+of_netlist : (bytes : List ℕ) (project : Project) (n : Netlist) → SaysProject bytes project → IsBuilt project n → IsAccepted n ⊎ ((fault : Refused) × IsRefused n fault) → TextOrNot bytes
+of_netlist bytes project n says built (inl accepted) =
+    inl (module_text (module_of n), record { project = project; netlist = n; says = says; built = built; accepted = accepted; printed = refl })
+of_netlist bytes project n says built (inr (fault, refused)) =
+    inr (NotAccepted fault, record { project = project; netlist = n; says = says; built = built; refused = refused })
+
+of_project : (bytes : List ℕ) (project : Project) → SaysProject bytes project → BuiltOrNot project → TextOrNot bytes
+of_project bytes project says (inl (n, built)) = of_netlist bytes project n says built (judged n)
+of_project bytes project says (inr none) = inr (Input NotBuilt, (project, says, none))
+
+text_or_not : (bytes : List ℕ) → length bytes ≤ GREATEST_LENGTH → TextOrNot bytes
+text_or_not bytes within = by (says_or_not bytes)
+  where
+    deep : ((project : Project) → SaysProject bytes project → ⊥) → IsTooDeep bytes ⊎ (IsTooDeep bytes → ⊥) → TextOrNot bytes
+    deep none (inl d) = inr (Input TooDeep, d)
+    deep none (inr d) = inr (Input NotProject, record { not_deep = d; says_none = none })
+
+    by : ((project : Project) × SaysProject bytes project) ⊎ ((project : Project) → SaysProject bytes project → ⊥) → TextOrNot bytes
+    by (inr none) = deep none (deep_or_not bytes)
+    by (inl (project, says)) =
+        of_project bytes project says (by_sheets project project.sheets refl (λ sheet e.
+        let few = subst (λ (sheets : List Sheet). All (IsFew (length bytes)) sheets) e (project_few bytes project says) 0 sheet (omega arith) in
+        omega (arith, few, within)))
+
+-- the bytes have one netlist
+same_netlist : (bytes : List ℕ) (p q : Project) (n m : Netlist) → SaysProject bytes p → SaysProject bytes q → IsBuilt p n → IsBuilt q m → m ≡ n
+same_netlist bytes p q n m says_p says_q b c =
+    let same : q ≡ p = one_project bytes q p says_q says_p in
+    one_built p b.sheet b.roles n b.only_sheet b.roles_are (λ other h. one_netlist b.sheet (zip b.sheet.comps b.roles) n other b.netlist h)
+    m (subst (λ (r : Project). IsBuilt r m) same c)
+
+-- the text of the bytes' module is the only one
+one_text : (bytes text text' : List ℕ) → IsModuleText bytes text → IsModuleText bytes text' → text' ≡ text
+one_text bytes text text' t t' =
+    let netlist : t'.netlist ≡ t.netlist = same_netlist bytes t.project t'.project t.netlist t'.netlist t.says t'.says t.built t'.built in
+    t'.printed ∙ (ap (λ (n : Netlist). module_text (module_of n)) netlist ∙ sym t.printed)
+
+-- the reason for which the bytes' netlist is refused is the only one
+one_refused : (bytes : List ℕ) (a b : Refused) → IsRefusedText bytes a → IsRefusedText bytes b → a ≡ b
+one_refused bytes a b h k =
+    let netlist : k.netlist ≡ h.netlist = same_netlist bytes h.project k.project h.netlist k.netlist h.says k.says h.built k.built in
+    one_refusal h.netlist a b h.refused (subst (λ (n : Netlist). IsRefused n b) netlist k.refused)
+
+-- what is built is not what is not built
+built_once : (bytes : List ℕ) (p q : Project) (n : Netlist) → SaysProject bytes p → SaysProject bytes q → IsBuilt p n → ((m : Netlist) → IsBuilt q m → ⊥) → ⊥
+built_once bytes p q n says_p says_q built none = none n (subst (λ (r : Project). IsBuilt r n) (one_project bytes p q says_p says_q) built)
+
+-- one thing is due, and no other
+abbrev pub OneOf : (Due → Type 0) → Type 0
+OneOf P = (due : Due) × P due × ((other : Due) → P other → other ≡ due)
+
+-- where there is a reason for none, there is no text
+pub no_text : (bytes : List ℕ) (why : Stop) (text : List ℕ) → IsNoModule bytes why → IsModuleText bytes text → ⊥
+no_text bytes (Input TooDeep) text h t = deep_says_none bytes t.project h t.says
+no_text bytes (Input NotProject) text h t = h.says_none t.project t.says
+no_text bytes (Input NotBuilt) text h t = built_once bytes t.project h.0 t.netlist t.says h.1 t.built h.2
+no_text bytes (NotAccepted fault) text h t =
+    let netlist : t.netlist ≡ h.netlist = same_netlist bytes h.project t.project h.netlist t.netlist h.says t.says h.built t.built in
+    accepted_not_refused h.netlist fault (subst IsAccepted netlist t.accepted) h.refused
+no_text bytes (Input Missing) text h t = h
+no_text bytes (Input TooLong) text h t = h
+no_text bytes Usage text h t = h
+no_text bytes ReadFault text h t = h
+no_text bytes WriteFault text h t = h
+no_text bytes Memory text h t = h
+
+-- the reasons exclude each other
+one_reason : (bytes : List ℕ) (a b : Stop) → IsNoModule bytes a → IsNoModule bytes b → a ≡ b
+one_reason bytes (Input TooDeep) (Input TooDeep) h k = refl
+one_reason bytes (Input TooDeep) (Input NotProject) h k = absurd (k.not_deep h)
+one_reason bytes (Input TooDeep) (Input NotBuilt) h k = absurd (deep_says_none bytes k.0 h k.1)
+one_reason bytes (Input TooDeep) (NotAccepted b) h k = absurd (deep_says_none bytes k.project h k.says)
+one_reason bytes (Input NotProject) (Input TooDeep) h k = absurd (h.not_deep k)
+one_reason bytes (Input NotProject) (Input NotProject) h k = refl
+one_reason bytes (Input NotProject) (Input NotBuilt) h k = absurd (h.says_none k.0 k.1)
+one_reason bytes (Input NotProject) (NotAccepted b) h k = absurd (h.says_none k.project k.says)
+one_reason bytes (Input NotBuilt) (Input TooDeep) h k = absurd (deep_says_none bytes h.0 k h.1)
+one_reason bytes (Input NotBuilt) (Input NotProject) h k = absurd (k.says_none h.0 h.1)
+one_reason bytes (Input NotBuilt) (Input NotBuilt) h k = refl
+one_reason bytes (Input NotBuilt) (NotAccepted b) h k = absurd (built_once bytes k.project h.0 k.netlist k.says h.1 k.built h.2)
+one_reason bytes (NotAccepted a) (Input TooDeep) h k = absurd (deep_says_none bytes h.project k h.says)
+one_reason bytes (NotAccepted a) (Input NotProject) h k = absurd (k.says_none h.project h.says)
+one_reason bytes (NotAccepted a) (Input NotBuilt) h k = absurd (built_once bytes h.project k.0 h.netlist h.says k.1 h.built k.2)
+one_reason bytes (NotAccepted a) (NotAccepted b) h k = ap (λ (reason : Refused). NotAccepted reason) (one_refused bytes a b h k)
+one_reason bytes (Input Missing) b h k = absurd h
+one_reason bytes (Input TooLong) b h k = absurd h
+one_reason bytes Usage b h k = absurd h
+one_reason bytes ReadFault b h k = absurd h
+one_reason bytes WriteFault b h k = absurd h
+one_reason bytes Memory b h k = absurd h
+one_reason bytes a (Input Missing) h k = absurd k
+one_reason bytes a (Input TooLong) h k = absurd k
+one_reason bytes a Usage h k = absurd k
+one_reason bytes a ReadFault h k = absurd k
+one_reason bytes a WriteFault h k = absurd k
+one_reason bytes a Memory h k = absurd k
+
+of_module : (file bytes : List ℕ) → TextOrNot bytes → OneOf (IsModuleDue file bytes)
+of_module file bytes (inl (text, t)) = (Writes Done text, (refl, t), λ other h. same other h)
+  where
+    same : (other : Due) → IsModuleDue file bytes other → other ≡ Writes Done text
+    same (Writes s text') h = ap (λ (x : Status). Writes x text') h.0 ∙ ap (Writes Done) (one_text bytes text text' t h.1)
+    same (Stops why about) h = absurd (no_text bytes why text h.0 t)
+of_module file bytes (inr (stop, none)) = (Stops stop file, (none, refl), λ other h. same other h)
+  where
+    same : (other : Due) → IsModuleDue file bytes other → other ≡ Stops stop file
+    same (Writes s text') h = absurd (no_text bytes stop text' none h.1)
+    same (Stops why about) h = ap (λ (x : Stop). Stops x about) (one_reason bytes why stop h.0 none) ∙ ap (Stops stop) h.1
+
+pub of_file : (file : List ℕ) (found : Option (List ℕ)) → OneOf (IsExportDue file found)
+of_file file None = (Stops (Input Missing) file, refl, λ other h. h)
+of_file file (Some bytes) = by_limit (nat_lt GREATEST_LENGTH (length bytes)) refl
+  where
+    by_limit : (b : Bool) → nat_lt GREATEST_LENGTH (length bytes) ≡ b → OneOf (λ due. MatchBool b (due ≡ Stops (Input TooLong) file) (IsModuleDue file bytes due))
+    by_limit true e = (Stops (Input TooLong) file, refl, λ other h. h)
+    by_limit false e = of_module file bytes (text_or_not bytes (ltb-false GREATEST_LENGTH (length bytes) e))
+
+of_command : (command : Option Command) (held : Held) → OneOf (IsCommandDue command held)
+of_command None held = (Stops Usage [], refl, λ other h. h)
+of_command (Some (Export file)) held = of_file file (held file)
+
+-- for all words and contents exactly one thing is due
+pub one_due : (words : List (List ℕ)) (held : Held) → OneOf (IsDue words held)
+one_due words held = of_command (command_of words) held

@@ -1,0 +1,94 @@
+-- What is due for some words and some files: a text with its status, or the first stop in the order of the verb's steps.
+use Rattle.std.specs.Prelude.{◌≡◌, ℕ, IsTrue, List, [], length, Option, Some, None, nat_lt, MatchBool}
+use Rattle.std.specs.List.{AllByRecursion}
+use Rattle.lg_run.specs.declared.status.Status.{Status}
+use Rattle.lg_run.specs.declared.status.Status.TheVariants.{Done}
+use Rattle.lg_run.specs.declared.stop.Refusal.TheVariants.{Missing, TooLong, TooDeep, NotProject, NotBuilt}
+use Rattle.lg_run.specs.declared.stop.Stop.{Stop}
+use Rattle.lg_run.specs.declared.stop.Stop.TheVariants.{Usage, Input, NotAccepted, ReadFault, WriteFault, Memory}
+use Rattle.lg_circ.specs.declared.read.TheConstants.{GREATEST_LENGTH}
+use Rattle.lg_circ.specs.declared.project.Project.{Project}
+use Rattle.lg_circ.specs.Project.{SaysProject, IsTooDeep, IsNoProject}
+use Rattle.lg_export.specs.Agreement.{Agrees}
+use Rattle.lg_export.specs.InTime.{AgreesOnRows}
+use Rattle.lg_export.specs.Layout.{module_of}
+use Rattle.lg_netlist.specs.declared.acceptance.NotAccepted.{NotAccepted as Refused}
+use Rattle.lg_netlist.specs.declared.netlist.Netlist.{Netlist}
+use Rattle.lg_netlist.specs.Acceptance.{IsAccepted, IsRefused}
+use Rattle.lg_netlist.specs.OneGate.{is_one_gate}
+use Rattle.lg_netlist.specs.Static.{input_pins, IsDefinedRow}
+use Rattle.lg_timing.specs.Circuit.{Word}
+use Rattle.lg_verilog.specs.Printed.{module_text}
+use Rattle.lg_run.specs.OneSheet.{IsBuilt, IsNotBuilt}
+use Rattle.lg_run.specs.Words.{Command, Export, command_of}
+
+-- a text for the output with the status after it, or the stop that the run ends with, about a file
+pub data Due : Type 0 where
+  Writes : (status : Status) → (text : List ℕ) → Due
+  Stops : (stop : Stop) → (file : List ℕ) → Due
+
+-- contents by name
+abbrev pub Held : Type 0
+Held = List ℕ → Option (List ℕ)
+
+-- the bytes say a project with a circuit that is built, its netlist is accepted, and this is the text of its module
+pub record IsModuleText (bytes text : List ℕ) : Type 0 where
+  pub project : Project
+  pub netlist : Netlist
+  pub says : SaysProject bytes project
+  pub built : IsBuilt project netlist
+  pub accepted : IsAccepted netlist
+  pub printed : text ≡ module_text (module_of netlist)
+
+-- the bytes say a project with a circuit that is built, and its netlist is refused for this reason
+pub record IsRefusedText (bytes : List ℕ) (reason : Refused) : Type 0 where
+  pub project : Project
+  pub netlist : Netlist
+  pub says : SaysProject bytes project
+  pub built : IsBuilt project netlist
+  pub refused : IsRefused netlist reason
+
+-- the text is that of a module which, of a one-gate circuit, agrees with the netlist of the project in the bytes, without
+-- time and in time
+pub record IsAgreedText (bytes text : List ℕ) : Type 0 where
+  pub made : IsModuleText bytes text
+  -- no other text is that of the bytes' module
+  pub only : (other : List ℕ) → IsModuleText bytes other → other ≡ text
+  pub agrees : IsTrue (is_one_gate made.netlist) → Agrees made.netlist (module_of made.netlist)
+  -- each list of rows of defined inputs has one session table at the project's limit
+  pub in_time : IsTrue (is_one_gate made.netlist) → (rows : List (List Word)) → AllByRecursion (IsDefinedRow (input_pins made.netlist)) rows
+      → AgreesOnRows made.netlist (module_of made.netlist) made.project.limit rows
+
+-- why bytes have no text of a module: they are too deep, or say no project, or one with a circuit that is not built or whose
+-- netlist is refused
+abbrev pub IsNoModule : List ℕ → Stop → Type 0
+IsNoModule bytes (Input TooDeep) = IsTooDeep bytes
+IsNoModule bytes (Input NotProject) = IsNoProject bytes
+IsNoModule bytes (Input NotBuilt) = (project : Project) × SaysProject bytes project × IsNotBuilt project
+IsNoModule bytes (NotAccepted reason) = IsRefusedText bytes reason
+IsNoModule bytes (Input Missing) = ⊥
+IsNoModule bytes (Input TooLong) = ⊥
+IsNoModule bytes Usage = ⊥
+IsNoModule bytes ReadFault = ⊥
+IsNoModule bytes WriteFault = ⊥
+IsNoModule bytes Memory = ⊥
+
+-- the text of the module, or why there is none
+abbrev pub IsModuleDue : List ℕ → List ℕ → Due → Type 0
+IsModuleDue file bytes (Writes status text) = (status ≡ Done) × IsModuleText bytes text
+IsModuleDue file bytes (Stops stop about) = IsNoModule bytes stop × (about ≡ file)
+
+-- TooLong before all that the bytes say
+abbrev pub IsExportDue : List ℕ → Option (List ℕ) → Due → Type 0
+IsExportDue file None due = due ≡ Stops (Input Missing) file
+IsExportDue file (Some bytes) due =
+    MatchBool (nat_lt GREATEST_LENGTH (length bytes)) (due ≡ Stops (Input TooLong) file) (IsModuleDue file bytes due)
+
+-- a case for each command
+abbrev pub IsCommandDue : Option Command → Held → Due → Type 0
+IsCommandDue None held due = due ≡ Stops Usage []
+IsCommandDue (Some (Export file)) held due = IsExportDue file (held file) due
+
+-- this is due for the words where the files hold this
+abbrev pub IsDue : List (List ℕ) → Held → Due → Type 0
+IsDue words held due = IsCommandDue (command_of words) held due

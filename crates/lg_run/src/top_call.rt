@@ -1,0 +1,80 @@
+//! The top call: from words to a status.
+
+ghost use Rattle.std.specs.Prelude.{◌≡◌, ◌↔◌, [], None, IfSome};
+ghost use Rattle.lg_io.specs.Fault.{HasRisen};
+ghost use Rattle.lg_io.specs.Sink.{Said};
+ghost use Rattle.lg_run.specs.Words.{words_of, command_of};
+ghost use Rattle.lg_run.specs.Due.{Due, IsDue};
+ghost use Rattle.lg_run.specs.Lines.{line_of};
+ghost use Rattle.lg_run.specs.Outcome.{WroteDue, WrotePrefix, WroteAgreed, KeepsOutput, SaidLine, Follows, Ends};
+ghost use Rattle.lg_run.specs.declared.stop.Stop.TheVariants as stop;
+
+use crate::export::export;
+use crate::status::Status;
+use crate::stop::Stop;
+use crate::words::file_to_export;
+use lg_io::{Files, Sink, write_all};
+use std::alloc::Global;
+
+/// Obeys the words: what they ask for goes to `out`, and why a run stopped goes to `err` as one line.
+pub fn run<F: Files, O: Sink, E: Sink>(
+    alloc: Global,
+    words: &[String],
+    files: &mut F,
+    out: &mut O,
+    err: &mut E,
+) -> Status
+    // The words are no command.
+    ensures usage { (result ≡ Status.Usage) ↔ (command_of (words_of words.now) ≡ None) }
+
+    // Where the files tell what they hold, the output has taken the due text and nothing else ..
+    ensures done { result ≡ Status.Done → IfSome (F.seen files.old).held
+        (λ held. WroteDue (words_of words.now) held result (O.seen out.old) (O.seen out.new)) }
+    // .. which is that of a module whose outputs, of a one-gate circuit, are the static values on each row of defined
+    // inputs; and each list of such rows has exactly one session table, in which each row settles in at most one instant,
+    // on the module's outputs.
+    ensures agrees { result ≡ Status.Done → IfSome (F.seen files.old).held
+        (λ held. WroteAgreed (words_of words.now) held (O.seen out.old) (O.seen out.new)) }
+
+    // A fault comes only where its count rose.
+    ensures read_fault { result ≡ Status.ReadFault →
+        HasRisen (F.seen files.old).faults (F.seen files.new).faults }
+    ensures write_fault { result ≡ Status.WriteFault →
+        HasRisen (O.seen out.old).faults (O.seen out.new).faults }
+    ensures prefix { result ≡ Status.WriteFault → IfSome (F.seen files.old).held
+        (λ held. WrotePrefix (words_of words.now) held (O.seen out.old) (O.seen out.new)) }
+
+    // After every other status nothing was written.
+    ensures nothing_written { KeepsOutput out.old out.new result }
+
+    // The status is the due one, unless memory ran out or a count rose.
+    ensures complete { IfSome (F.seen files.old).held
+        (λ held. (due : Due) → IsDue (words_of words.now) held due →
+        Follows due result (F.seen files.old) (F.seen files.new) (O.seen out.old) (O.seen out.new)) }
+
+    // The status's line was said; for an input and for a circuit that is not accepted, that of the stop that is due.
+    ensures said { SaidLine (words_of words.now) (F.seen files.old).held result (E.seen err.old) (E.seen err.new) }
+
+    ensures same_files { (F.seen files.new).held ≡ (F.seen files.old).held }
+{
+    let Some(file) = file_to_export(words) else {
+        return Stop::Usage.end("", err);
+    };
+    match export(alloc, file, files) {
+        Ok(text) => write(text.as_slice(), out, err),
+        Err(stop) => stop.end(file, err),
+    }
+}
+
+// Writes the text that was asked for.
+fn write<O: Sink, E: Sink>(text: &[u8], out: &mut O, err: &mut E) -> Status
+    ensures ends { Ends result (O.seen out.old) (O.seen out.new) text.now }
+    ensures quiet { result ≡ Status.Done → err.new ≡ err.old }
+    ensures said { result ≡ Status.WriteFault →
+        Said (E.seen err.old) (E.seen err.new) (line_of stop.WriteFault []) }
+{
+    match write_all(out, text) {
+        Ok(()) => Status::Done,
+        Err(_) => Stop::WriteFault.end("", err),
+    }
+}
