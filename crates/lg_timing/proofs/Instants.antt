@@ -18,7 +18,7 @@ steady_numbered greatest c steady k d inside =
     subst (λ (p : Numbered). IsSteady greatest p.1) (sym is) (steady k d.1 within)
 
 -- each numbered part finds its state under its number
-state_of_next : (c : Circuit) (f : Numbered → List Word) (nets : ℕ → Bit) → Agree (λ (p : Numbered). state_of (record { nets = nets; states = map f (numbered_parts c) }) p.0) f (numbered_parts c)
+pub state_of_next : (c : Circuit) (f : Numbered → List Word) (nets : ℕ → Bit) → Agree (λ (p : Numbered). state_of (record { nets = nets; states = map f (numbered_parts c) }) p.0) f (numbered_parts c)
 state_of_next c f nets k d inside =
     let within : k < length c.parts = omega (arith, inside, length-enumerate_from 0 c.parts) in
     let is = get_or-enumerate_from 0 c.parts k d within in
@@ -33,7 +33,7 @@ map_alike f g (p ∷ parts) same =
     rw (first, rest) refl
 
 -- a step from an instant to the same nets leaves a steady part's state
-next_state_again : (greatest : ℕ) (past : List Instant) (instant : Instant) (p : Numbered) → IsSteady greatest p.1 → state_of instant p.0 ≡ next_state past instant.nets p → next_state (instant ∷ past) instant.nets p ≡ next_state past instant.nets p
+pub next_state_again : (greatest : ℕ) (past : List Instant) (instant : Instant) (p : Numbered) → IsSteady greatest p.1 → state_of instant p.0 ≡ next_state past instant.nets p → next_state (instant ∷ past) instant.nets p ≡ next_state past instant.nets p
 next_state_again greatest [] instant p steady was =
     let now : List Word = input_words instant.nets p.1 in
     ap (λ state. p.1.step state now now) was
@@ -44,7 +44,7 @@ next_state_again greatest (last ∷ past) instant p steady was =
     ∙ steady.second_step (state_of last p.0) (input_words last.nets p.1) now
 
 -- the next instant is this one again, where no output differs then
-next_again : (greatest : ℕ) (c : Circuit) (s : Stimulus) (past : List Instant) → All (IsSteady greatest) c.parts → Agree (output_words past) (output_words (next c s past ∷ past)) (numbered_parts c) → next c s (next c s past ∷ past) ≡ next c s past
+pub next_again : (greatest : ℕ) (c : Circuit) (s : Stimulus) (past : List Instant) → All (IsSteady greatest) c.parts → Agree (output_words past) (output_words (next c s past ∷ past)) (numbered_parts c) → next c s (next c s past ∷ past) ≡ next c s past
 next_again greatest c s past steady same =
     let now : Instant = next c s past in
     let nets : net_bit c s (now ∷ past) ≡ net_bit c s past =

@@ -5,7 +5,13 @@ pub mod Stretch
 pub mod Counting
 pub mod Outcome
 pub mod OneTable
+pub mod TableExists
+pub mod LaterStimuli
+pub mod ConfigurationSteps
+pub mod Shift
 pub mod Rest
+pub mod Still
+pub mod Evaluated
 pub mod DriverSteps
 pub mod PartSteps
 pub mod SeenLemmas

@@ -20,7 +20,7 @@ Agree f g parts = All (λ (p : Numbered). f p ≡ g p) parts
 abbrev pub SameOutputs : Circuit → List Stimulus → ℕ → ℕ → Type 0
 SameOutputs c stimuli a b = Agree (outputs_at c stimuli a) (outputs_at c stimuli b) (numbered_parts c)
 
-Decides-same_words : (a b : List Word) → Decides (same_words a b) (a ≡ b)
+pub Decides-same_words : (a b : List Word) → Decides (same_words a b) (a ≡ b)
 Decides-same_words a b = slice_eq-Decides Decides-same_word a b (same_words a b) refl
 
 Agree-from_none : (f g : Numbered → List Word) (parts : List Numbered) → list_any (λ (p : Numbered). not (same_words (f p) (g p))) parts ≡ false → Agree f g parts
@@ -44,7 +44,7 @@ SameOutputs-from_quiet c stimuli t quiet = Agree-from_none (outputs_at c stimuli
 pub quiet_from_same : (c : Circuit) (stimuli : List Stimulus) (t : ℕ) → SameOutputs c stimuli t (suc t) → is_busy c stimuli (suc t) ≡ false
 quiet_from_same c stimuli t same = none_from_agree (outputs_at c stimuli t) (outputs_at c stimuli (suc t)) (numbered_parts c) same
 
-driven_alike : (net : ℕ) (f g : Numbered → List Word) (parts : List Numbered) → Agree f g parts → flat_map (λ (p : Numbered). words_on net (map (λ (port : Port). port.nets) p.1.outputs) (f p)) parts ≡ flat_map (λ (p : Numbered). words_on net (map (λ (port : Port). port.nets) p.1.outputs) (g p)) parts
+pub driven_alike : (net : ℕ) (f g : Numbered → List Word) (parts : List Numbered) → Agree f g parts → flat_map (λ (p : Numbered). words_on net (map (λ (port : Port). port.nets) p.1.outputs) (f p)) parts ≡ flat_map (λ (p : Numbered). words_on net (map (λ (port : Port). port.nets) p.1.outputs) (g p)) parts
 driven_alike net f g [] same = refl
 driven_alike net f g (p ∷ parts) same =
     let first : f p ≡ g p = All-head (λ (q : Numbered). f q ≡ g q) p parts same in

@@ -2,6 +2,7 @@ pub mod Circuit
 pub mod Instant
 pub mod Settling
 pub mod Configuration
+pub mod Evaluation
 pub mod Session
 pub mod Plain
 pub mod Samples

@@ -44,3 +44,7 @@ pub record IsSteady (greatest : ℕ) (p : Part) : Type 0 where
 -- the last stimulus stands at an instant or before it
 abbrev pub StayFrom : List Stimulus → ℕ → Type 0
 StayFrom stimuli start = All (λ (s : Stimulus). s.from ≤ start) stimuli
+
+-- these stimuli stand after an instant
+abbrev pub StandAfter : ℕ → List Stimulus → Type 0
+StandAfter t stimuli = All (λ (s : Stimulus). t < s.from) stimuli

@@ -1,10 +1,12 @@
 //! The law of settling.
 
-ghost use Rattle.std.specs.Prelude.{◌≡◌, ℕ, ◌+◌, ◌<◌, ◌≤◌, false, List, ◌⊎◌, All};
-ghost use Rattle.lg_timing.specs.Circuit.{Word, Circuit, Stimulus};
+ghost use Rattle.std.specs.Prelude.{◌≡◌, ℕ, ◌+◌, ◌<◌, ◌≤◌, ◌++◌, false, List, [], length, Some, ◌⊎◌, All};
+ghost use Rattle.lg_timing.specs.Circuit.{Word, Port, Circuit, Stimulus};
+ghost use Rattle.lg_timing.specs.Instant.{Numbered, numbered_parts, answered, in_force, instant_at, outputs_at};
 ghost use Rattle.lg_timing.specs.Session.{Table, IsTable};
-ghost use Rattle.lg_timing.specs.Settling.{is_busy, SettlesAt, SettlesWithin, OscillatesPast, IsSteady, StayFrom};
-ghost use Rattle.lg_timing.specs.Configuration.{IsAtRest};
+ghost use Rattle.lg_timing.specs.Settling.{is_busy, SettlesAt, SettlesWithin, OscillatesPast, IsSteady, StayFrom, StandAfter};
+ghost use Rattle.lg_timing.specs.Evaluation.{is_evaluated, evaluations_at};
+ghost use Rattle.lg_timing.specs.Configuration.{Configuration, configuration_at, first, next, going_on, shifted, SamePut, stimulus_of, IsStill, IsAtRest, HaveDelays};
 
 /// A law: while its stimulus stays, a circuit of steady parts either settles within a limit of busy
 /// instants or oscillates past it, and never both.
@@ -24,13 +26,69 @@ pub fn settling_is_decided()
         → SettlesAt c stimuli start a → SettlesAt c stimuli start b → a ≡ b }
     ensures one_number { (c : Circuit) (stimuli : List Stimulus) (start limit a b : ℕ)
         → OscillatesPast c stimuli start limit a → OscillatesPast c stimuli start limit b → a ≡ b }
-    // What has settled is at rest.
-    ensures rest { (c : Circuit) (stimuli : List Stimulus) (start settled : ℕ)
-        → StayFrom stimuli start → SettlesAt c stimuli start settled → IsAtRest c stimuli settled }
+    // What has settled is at rest, also where later stimuli follow.
+    ensures rest { (c : Circuit) (stimuli later : List Stimulus) (start settled : ℕ)
+        → HaveDelays c → StayFrom stimuli start → SettlesAt c stimuli start settled
+        → StandAfter settled later → IsAtRest c (configuration_at c (stimuli ++ later) settled) }
 {}
 
-/// A law: rows have at most one session table, at each limit.
+/// A law: rows have at most one session table at each limit, and exactly one where the parts are
+/// steady.
 pub fn rows_have_one_table()
-    ensures { (c : Circuit) (limit : ℕ) (rows : List (List Word)) (a b : Table)
+    ensures at_most { (c : Circuit) (limit : ℕ) (rows : List (List Word)) (a b : Table)
         → IsTable c limit rows a → IsTable c limit rows b → a ≡ b }
+    ensures one { (greatest : ℕ) (c : Circuit) (limit : ℕ) (rows : List (List Word))
+        → All (IsSteady greatest) c.parts
+        → (table : Table) × IsTable c limit rows table
+        × ((other : Table) → IsTable c limit rows other → other ≡ table) }
+{}
+
+/// A law: stimuli that stand after an instant change nothing up to it.
+pub fn later_stimuli_change_nothing()
+    ensures instant { (c : Circuit) (stimuli later : List Stimulus) (t : ℕ) → StandAfter t later
+        → instant_at c (stimuli ++ later) t ≡ instant_at c stimuli t }
+    ensures outputs { (c : Circuit) (stimuli later : List Stimulus) (t : ℕ) (p : Numbered) → StandAfter t later
+        → outputs_at c (stimuli ++ later) t p ≡ outputs_at c stimuli t p }
+    ensures busy { (c : Circuit) (stimuli later : List Stimulus) (t : ℕ) → StandAfter t later
+        → is_busy c (stimuli ++ later) t ≡ is_busy c stimuli t }
+    ensures configuration { (c : Circuit) (stimuli later : List Stimulus) (t : ℕ) → StandAfter t later
+        → configuration_at c (stimuli ++ later) t ≡ configuration_at c stimuli t }
+{}
+
+/// A law: the configuration of the next instant comes of the one before and of the stimulus then.
+pub fn configurations_go_on()
+    ensures first { (c : Circuit) (stimuli : List Stimulus) → HaveDelays c
+        → configuration_at c stimuli 0 ≡ first c (in_force stimuli 0) }
+    ensures next { (c : Circuit) (stimuli : List Stimulus) (t : ℕ) → HaveDelays c
+        → configuration_at c stimuli (t + 1) ≡ next c (in_force stimuli (t + 1)) (configuration_at c stimuli t) }
+    ensures later { (c : Circuit) (stimuli : List Stimulus) (t n : ℕ) → HaveDelays c
+        → configuration_at c stimuli (t + n) ≡ going_on c stimuli t (configuration_at c stimuli t) n }
+    // What comes after an instant is a function of its configuration and of the stimuli after it.
+    ensures function { (c : Circuit) (a b : List Stimulus) (t u n : ℕ) → HaveDelays c
+        → configuration_at c a t ≡ configuration_at c b u
+        → ((i : ℕ) → i < n → SamePut (in_force a (t + (i + 1))) (in_force b (u + (i + 1))))
+        → configuration_at c a (t + n) ≡ configuration_at c b (u + n) }
+    // A shift of all instants changes nothing.
+    ensures shift { (later : ℕ) (c : Circuit) (stimuli : List Stimulus) (t : ℕ) (k : Configuration) (n : ℕ)
+        → going_on c (shifted later stimuli) (t + later) k n ≡ going_on c stimuli t k n }
+    // Where nothing else is due than what is shown it is this one again, while its stimulus stays.
+    ensures again { (greatest : ℕ) (c : Circuit) (stimuli : List Stimulus) (t : ℕ) → All (IsSteady greatest) c.parts
+        → IsStill c (configuration_at c stimuli t)
+        → next c (stimulus_of (configuration_at c stimuli t)) (configuration_at c stimuli t) ≡ configuration_at c stimuli t }
+    ensures rest { (greatest : ℕ) (c : Circuit) (stimuli : List Stimulus) (t : ℕ) → All (IsSteady greatest) c.parts
+        → IsStill c (configuration_at c stimuli t) → IsAtRest c (configuration_at c stimuli t) }
+{}
+
+/// A law: what the evaluations of parts tell.
+pub fn evaluations_are_counted()
+    ensures first { (c : Circuit) (stimuli : List Stimulus) → evaluations_at c stimuli 0 ≡ length c.parts }
+    // A steady part without an evaluation answers as at the instant before.
+    ensures others { (greatest : ℕ) (c : Circuit) (stimuli : List Stimulus) (t : ℕ) → All (IsSteady greatest) c.parts
+        → All (λ (p : Numbered). is_evaluated c stimuli (t + 1) p ≡ false
+            → answered p (Some (instant_at c stimuli (t + 1))) ≡ answered p (Some (instant_at c stimuli t))) (numbered_parts c) }
+    ensures unattached { (c : Circuit) (stimuli : List Stimulus) (t : ℕ) (p : Numbered)
+        → All (λ (port : Port). port.nets ≡ []) p.1.inputs → is_evaluated c stimuli (t + 1) p ≡ false }
+    // After all has settled there is none.
+    ensures settled { (c : Circuit) (stimuli : List Stimulus) (start settled u : ℕ) → StayFrom stimuli start
+        → SettlesAt c stimuli start settled → settled < u → evaluations_at c stimuli u ≡ 0 }
 {}

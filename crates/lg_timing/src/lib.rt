@@ -16,7 +16,9 @@ mod well_formed;
 mod words;
 
 pub use circuit::{Circuit, Stimulus};
-pub use law::{rows_have_one_table, settling_is_decided};
+pub use law::{
+    configurations_go_on, evaluations_are_counted, later_stimuli_change_nothing, rows_have_one_table, settling_is_decided,
+};
 pub use part::Behaviour;
 pub use phase::Phase;
 pub use port::{Nets, Port};

@@ -1,0 +1,34 @@
+-- Evaluations of parts, which a simulation counts: at which instants a part has one, and how many a stimulus takes.
+-- Source: the Logisim-evolution user guide, Value propagation (a component is asked again where its inputs change), counted by this project.
+use Rattle.std.specs.Prelude.{◌≡◌, ℕ, zero, suc, ◌+◌, ◌-◌, Bool, true, not, List, map}
+use Rattle.std.specs.List.{count_by}
+use Rattle.lg_value.specs.declared.bit.Bit.{Bit}
+use Rattle.lg_timing.specs.Circuit.{Word, Port, Part, Circuit, Stimulus}
+use Rattle.lg_timing.specs.Instant.{Numbered, numbered_parts, instant_at}
+use Rattle.lg_timing.specs.Settling.{same_words}
+
+-- the bits on a part's inputs; a port to which nothing is attached has none
+abbrev pub bits_read : (ℕ → Bit) → Part → List Word
+bits_read nets p = map (λ (port : Port). map nets port.nets) p.inputs
+
+-- whether a part has an evaluation: at instant 0, and later where some bit of its inputs differs from the instant before
+abbrev pub is_evaluated : Circuit → List Stimulus → ℕ → Numbered → Bool
+is_evaluated c stimuli zero p = true
+is_evaluated c stimuli (suc t) p = not (same_words (bits_read (instant_at c stimuli t).nets p.1) (bits_read (instant_at c stimuli (suc t)).nets p.1))
+
+-- how many there are at an instant
+abbrev pub evaluations_at : Circuit → List Stimulus → ℕ → ℕ
+evaluations_at c stimuli t = count_by (is_evaluated c stimuli t) (numbered_parts c)
+
+-- how many there are at so many instants, from one on
+unfoldable pub evaluations : Circuit → List Stimulus → ℕ → ℕ → ℕ
+evaluations c stimuli start zero = 0
+evaluations c stimuli start (suc n) = evaluations c stimuli start n + evaluations_at c stimuli (start + n)
+
+-- a stimulus that settles takes those from where it stands to where it has settled
+abbrev pub evaluations_settled : Circuit → List Stimulus → ℕ → ℕ → ℕ
+evaluations_settled c stimuli start settled = evaluations c stimuli start (settled - start + 1)
+
+-- one that oscillates takes those before the busy instant past the limit, which is so many instants after it
+abbrev pub evaluations_oscillating : Circuit → List Stimulus → ℕ → ℕ → ℕ
+evaluations_oscillating c stimuli start after = evaluations c stimuli start after
