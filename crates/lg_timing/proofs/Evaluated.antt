@@ -1,9 +1,10 @@
 -- Where a part has no evaluation it answers as before, and after all has settled there is none.
-use Rattle.std.proofs.Common.{◌≡◌, ℕ, zero, suc, ◌+◌, ◌-◌, ◌<◌, ◌≤◌, true, false, List, [], ◌∷◌, ◌++◌, length, map, get_or, Some, sym, refl, ap, ◌∙◌, arith}
+use Rattle.std.proofs.Common.{◌≡◌, ℕ, zero, suc, ◌+◌, ◌-◌, ◌<◌, ◌≤◌, Bool, true, false, cond, List, [], ◌∷◌, ◌++◌, length, map, get_or, Some, sym, refl, ap, ◌∙◌, arith}
 use Rattle.std.specs.Prelude.{not, All, replicate}
 use Rattle.std.specs.List.{count_by}
 use Rattle.std.proofs.lemmas.Bool.{not-false}
 use Rattle.std.proofs.lemmas.List.Elements.{All-head, All-tail}
+use Rattle.std.proofs.lemmas.List.Sums.{sum_by-cons}
 use Rattle.std.proofs.lemmas.List.FromFn.{length-enumerate_from}
 use Rattle.lg_value.specs.declared.bit.Bit.{Bit}
 use Rattle.lg_value.specs.declared.bit.Bit.TheVariants.{Unknown}
@@ -18,11 +19,14 @@ use Rattle.lg_timing.proofs.LaterStimuli.{instant_at-later}
 
 count_by-all : {X : Type 0} (xs : List X) → count_by (λ x. true) xs ≡ length xs
 count_by-all [] = refl
-count_by-all (x ∷ xs) = ?
+count_by-all {X} (x ∷ xs) = omega (arith, sum_by-cons {X = X} (λ y. 1) x xs, count_by-all xs)
 
 count_by-none : {X : Type 0} (test : X → Bool) (xs : List X) → ((i : ℕ) (d : X) → i < length xs → test (get_or xs i d) ≡ false) → count_by test xs ≡ 0
 count_by-none test [] none = refl
-count_by-none test (x ∷ xs) none = ?
+count_by-none {X} test (x ∷ xs) none =
+    let first : test x ≡ false = none 0 x (omega arith) in
+    let rest : count_by test xs ≡ 0 = count_by-none test xs (λ i d inside. none (suc i) d (omega (arith, inside))) in
+    sum_by-cons {X = X} (λ y. cond (test y) 1 0) x xs ∙ ap (λ b. cond b 1 0 + count_by test xs) first ∙ omega (arith, rest)
 
 -- at instant 0 each part has one
 pub evaluations-first : (c : Circuit) (stimuli : List Stimulus) → evaluations_at c stimuli 0 ≡ length c.parts

@@ -6,4 +6,5 @@ pub mod Evaluation
 pub mod Session
 pub mod Plain
 pub mod Samples
+pub mod NotGate
 pub mod Rows

@@ -1,11 +1,14 @@
 //! The law of settling.
 
-ghost use Rattle.std.specs.Prelude.{◌≡◌, ℕ, ◌+◌, ◌<◌, ◌≤◌, ◌++◌, false, List, [], length, Some, ◌⊎◌, All};
+ghost use Rattle.std.specs.Prelude.{◌≡◌, ℕ, ◌+◌, ◌<◌, ◌≤◌, ◌++◌, true, false, List, [], ◌∷◌, length, Some, ◌⊎◌, All};
+ghost use Rattle.lg_value.specs.declared.bit.Bit.{Bit};
 ghost use Rattle.lg_timing.specs.Circuit.{Word, Port, Circuit, Stimulus};
 ghost use Rattle.lg_timing.specs.Instant.{Numbered, numbered_parts, answered, in_force, instant_at, outputs_at};
 ghost use Rattle.lg_timing.specs.Session.{Table, IsTable};
 ghost use Rattle.lg_timing.specs.Settling.{is_busy, SettlesAt, SettlesWithin, OscillatesPast, IsSteady, StayFrom, StandAfter};
 ghost use Rattle.lg_timing.specs.Evaluation.{is_evaluated, evaluations_at};
+ghost use Rattle.lg_timing.specs.Samples.{one_word};
+ghost use Rattle.lg_timing.specs.NotGate.{not_circuit, row_0, both_rows, Shows, not_table};
 ghost use Rattle.lg_timing.specs.Configuration.{Configuration, configuration_at, first, next, going_on, shifted, SamePut, stimulus_of, IsStill, IsAtRest, HaveDelays};
 
 /// A law: while its stimulus stays, a circuit of steady parts either settles within a limit of busy
@@ -91,4 +94,17 @@ pub fn evaluations_are_counted()
     // After all has settled there is none.
     ensures settled { (c : Circuit) (stimuli : List Stimulus) (start settled u : ℕ) → StayFrom stimuli start
         → SettlesAt c stimuli start settled → settled < u → evaluations_at c stimuli u ≡ 0 }
+{}
+
+/// A law: the timeline of a NOT gate with rows 0 and 1, instant by instant, and its session table.
+pub fn not_gate_answers_after_one_instant()
+    ensures instant_0 { Shows 0 Bit.Zero Bit.Unknown false 1 }
+    ensures instant_1 { Shows 1 Bit.Zero Bit.One true 0 }
+    ensures instant_2 { Shows 2 Bit.One Bit.One false 1 }
+    ensures instant_3 { Shows 3 Bit.One Bit.Zero true 0 }
+    ensures later { (t : ℕ) → 3 < t → Shows t Bit.One Bit.Zero false 0 }
+    ensures row_0 { SettlesAt not_circuit row_0 0 1 }
+    ensures row_1 { SettlesAt not_circuit both_rows 2 3 }
+    ensures table { (limit : ℕ) → 1 ≤ limit
+        → IsTable not_circuit limit (one_word Bit.Zero ∷ one_word Bit.One ∷ []) not_table }
 {}

@@ -17,7 +17,8 @@ mod words;
 
 pub use circuit::{Circuit, Stimulus};
 pub use law::{
-    configurations_go_on, evaluations_are_counted, later_stimuli_change_nothing, rows_have_one_table, settling_is_decided,
+    configurations_go_on, evaluations_are_counted, later_stimuli_change_nothing,
+    not_gate_answers_after_one_instant, rows_have_one_table, settling_is_decided,
 };
 pub use part::Behaviour;
 pub use phase::Phase;
