@@ -18,4 +18,5 @@ pub mod PartSteps
 pub mod SeenLemmas
 pub mod RunLemmas
 pub mod TableLemmas
+pub mod SteppingLemmas
 pub mod SampleLemmas

@@ -1,9 +1,10 @@
 //! Circuits of parts, and what is put on their pins.
 
-ghost use Rattle.std.specs.Prelude.{◌≡◌};
+ghost use Rattle.std.specs.Prelude.{◌≡◌, IfOk};
 
 use crate::{Nets, Words};
 use lg_value::Bit;
+use std::alloc::{AllocError, Global};
 use std::marker::Model;
 
 /// A circuit: its parts, pulled nets, pins and clocks.
@@ -44,6 +45,14 @@ impl Stimulus {
         ensures { result ≡ record { from = from; words = words; clock = clock } }
     {
         Stimulus { from, words, clock }
+    }
+
+    /// A copy of it.
+    pub fn copy(&self, alloc: Global) -> Result<Stimulus, AllocError>
+        ensures { IfOk result (λ copy. copy ≡ self.now) }
+    {
+        let words = Words::copy_of(alloc, self.words.words())?;
+        Ok(Stimulus::new(self.from, words, self.clock))
     }
 
     /// From which instant on.

@@ -13,7 +13,7 @@ use lg_value::{Bit, Word};
 use std::alloc::{AllocError, Global};
 
 // An unknown word for each port.
-fn unknown_words(alloc: Global, ports: &[Port]) -> Result<Vec<Word>, AllocError>
+pub(crate) fn unknown_words(alloc: Global, ports: &[Port]) -> Result<Vec<Word>, AllocError>
     requires { list_all is_port ports.now ≡ true }
     ensures { IfOk result (λ words. words.items ≡ unknown_words ports.now) }
 {
@@ -144,7 +144,7 @@ fn state_after<P: Behaviour>(
 }
 
 // The words on the inputs of every part.
-fn all_inputs<P: Behaviour>(
+pub(crate) fn all_inputs<P: Behaviour>(
     alloc: Global,
     circuit: &Circuit<P>,
     stimulus: &Stimulus,
@@ -164,7 +164,7 @@ fn all_inputs<P: Behaviour>(
 }
 
 // The next state of every part, from the words on all inputs now.
-fn all_states<P: Behaviour>(
+pub(crate) fn all_states<P: Behaviour>(
     alloc: Global,
     circuit: &Circuit<P>,
     past: &[Seen],

@@ -2,6 +2,7 @@
 #![tactic(auto)]
 
 mod circuit;
+mod configuration;
 mod drivers;
 mod history;
 mod kept;
@@ -16,6 +17,7 @@ mod well_formed;
 mod words;
 
 pub use circuit::{Circuit, Stimulus};
+pub use configuration::{Configuration, Due};
 pub use law::{
     configurations_go_on, evaluations_are_counted, later_stimuli_change_nothing,
     not_gate_answers_after_one_instant, rows_have_one_table, settling_is_decided,

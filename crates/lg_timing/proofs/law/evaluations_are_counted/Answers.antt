@@ -1,4 +1,4 @@
-use Rattle.std.proofs.Common.{◌≡◌, ◌+◌, suc, false, Some, sym, subst, arith}
+use Rattle.std.proofs.Common.{◌≡◌, ◌+◌, suc, false, Some, subst, arith}
 use Rattle.std.specs.Prelude.{All}
 use Rattle.lg_timing.specs.Instant.{Numbered, numbered_parts, answered, instant_at}
 use Rattle.lg_timing.specs.Evaluation.{is_evaluated}
