@@ -7,7 +7,7 @@ use mathlib.Core.Path.{fun_ext}
 use Rattle.lg_value.specs.declared.bit.Bit.{Bit}
 use Rattle.lg_value.specs.Drivers.{join_of_drivers}
 use Rattle.lg_timing.specs.Circuit.{Word, Part, Circuit, Stimulus}
-use Rattle.lg_timing.specs.Instant.{Instant, Numbered, numbered_parts, answered, unknown_words, input_words, words_on, bits_on, pulls_of, or_else, net_bit, next_state, output_words, in_force, timeline}
+use Rattle.lg_timing.specs.Instant.{Instant, Numbered, numbered_parts, answered, unknown_words, input_words, words_on, bits_on, pulls_of, or_else, net_bit, next_state, output_words, in_force, timeline, instant_at}
 use Rattle.lg_timing.specs.Configuration.{Configuration, due_words, configuration_at, nets_shown, stimulus_of, nets_of, stepped, first, due_of, next, going_on, HaveDelays}
 use Rattle.lg_timing.proofs.Outputs.{driven_alike}
 use Rattle.lg_timing.proofs.SeenLemmas.{map_at, number-is}
@@ -159,3 +159,18 @@ configuration-going_on c stimuli t (suc n) delays =
     ∙ configuration-next c stimuli (t + n) delays
     ∙ ap (λ u. next c (in_force stimuli u) (configuration_at c stimuli (t + n))) (sym same)
     ∙ ap (next c (in_force stimuli (t + suc n))) (configuration-going_on c stimuli t n delays)
+
+pub going_on-none : (c : Circuit) (stimuli : List Stimulus) (t : ℕ) (k : Configuration) → going_on c stimuli t k 0 ≡ k
+unfolding going_on
+going_on-none c stimuli t k = refl
+
+pub going_on-more : (c : Circuit) (stimuli : List Stimulus) (t n u : ℕ) (k : Configuration) → u ≡ t + n + 1 → going_on c stimuli t k (n + 1) ≡ next c (in_force stimuli u) (going_on c stimuli t k n)
+unfolding going_on
+going_on-more c stimuli t n u k there =
+    let one : n + 1 ≡ suc n = omega arith in
+    let same : t + suc n ≡ u = omega (arith, there) in
+    ap (going_on c stimuli t k) one ∙ ap (λ v. next c (in_force stimuli v) (going_on c stimuli t k n)) same
+
+-- the nets of a configuration are those of its instant
+pub nets_of-is : (c : Circuit) (stimuli : List Stimulus) (t : ℕ) → nets_of c (configuration_at c stimuli t) ≡ (instant_at c stimuli t).nets
+nets_of-is c stimuli t = nets_shown-is c (stimulus_of (configuration_at c stimuli t)) (timeline c stimuli t)

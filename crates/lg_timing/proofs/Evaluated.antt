@@ -37,7 +37,7 @@ word_alike : (f g : ℕ → Bit) (width : ℕ) (nets : List ℕ) → map f nets 
 word_alike f g width [] same = refl
 word_alike f g width (net ∷ nets) same = same
 
-words_alike : (f g : ℕ → Bit) (ports : List Port) → map (λ (port : Port). map f port.nets) ports ≡ map (λ (port : Port). map g port.nets) ports
+pub words_alike : (f g : ℕ → Bit) (ports : List Port) → map (λ (port : Port). map f port.nets) ports ≡ map (λ (port : Port). map g port.nets) ports
     → map (λ (port : Port). word_at f port.width port.nets) ports ≡ map (λ (port : Port). word_at g port.width port.nets) ports
 words_alike f g [] same = refl
 words_alike f g (port ∷ ports) same =

@@ -12,6 +12,7 @@ pub mod Shift
 pub mod Rest
 pub mod Still
 pub mod Evaluated
+pub mod CountLemmas
 pub mod NotTimeline
 pub mod DriverSteps
 pub mod PartSteps

@@ -2,7 +2,7 @@
 use Rattle.std.proofs.Common.{◌≡◌, ℕ, zero, suc, ◌+◌, ◌-◌, ◌<◌, ◌≤◌, Bool, true, false, List, [], ◌∷◌, length, map, drop, max, fold, inl, inr, ◌∙◌, ap, refl, arith, rules, take, take_all, length-drop}
 use Rattle.std.specs.Prelude.{◌⊎◌, ◌||◌, not, All}
 use Rattle.std.specs.List.{list_any, AllByRecursion}
-use Rattle.std.proofs.lemmas.List.{length-map}
+use Rattle.std.proofs.lemmas.List.{length-map, at_drop_all}
 use Rattle.std.proofs.lemmas.List.Elements.{recursion_from_All, All-from_recursion}
 use Rattle.std.proofs.lemmas.List.FromFn.{length-enumerate_from}
 use Rattle.lg_timing.specs.Circuit.{Word, Part, Circuit, Stimulus}
@@ -17,7 +17,7 @@ pub length-all_outputs : (c : Circuit) (past : List Seen) → length (all_output
 unfolding all_outputs
 length-all_outputs c past = simp (length-map, length-enumerate_from) refl
 
-differ-map : (before now : Numbered → List Word) (parts : List Numbered) → differ (map before parts) (map now parts) ≡ list_any (λ (p : Numbered). not (same_words (before p) (now p))) parts
+pub differ-map : (before now : Numbered → List Word) (parts : List Numbered) → differ (map before parts) (map now parts) ≡ list_any (λ (p : Numbered). not (same_words (before p) (now p))) parts
 differ-map before now [] = refl
 differ-map before now (p ∷ parts) = ap (λ b. not (same_words (before p) (now p)) || b) (differ-map before now parts)
 
@@ -117,13 +117,24 @@ oscillates_there c stimuli start limit last count reached more busy =
     let here : start + (last - start) ≡ last = omega (arith, reached.after) in
     record { busy = rw here busy; number = reached.count ∙ more }
 
--- one more than the limit
-pub reached-oscillates : (c : Circuit) (stimuli : List Stimulus) (start limit last count : ℕ) → IsReached c stimuli start last count → count ≡ limit + 1 → (after : ℕ) × OscillatesPast c stimuli start limit after
-reached-oscillates c stimuli start limit last count reached more =
+pub reached-oscillates_at : (c : Circuit) (stimuli : List Stimulus) (start limit last count : ℕ) → IsReached c stimuli start last count → count ≡ limit + 1 → OscillatesPast c stimuli start limit (last - start)
+reached-oscillates_at c stimuli start limit last count reached more =
     elim reached.last_busy [
       | inl none ↦
           let zero_long : last - start ≡ 0 = omega (arith, none) in
           let few : busy_count c stimuli start (last - start) ≡ 0 = rw zero_long (busy_count_none c stimuli start) in
           absurd (omega (arith, few, reached.count, more))
-      | inr busy ↦ (last - start, oscillates_there c stimuli start limit last count reached more busy)
+      | inr busy ↦ oscillates_there c stimuli start limit last count reached more busy
     ]
+
+-- one more than the limit
+pub reached-oscillates : (c : Circuit) (stimuli : List Stimulus) (start limit last count : ℕ) → IsReached c stimuli start last count → count ≡ limit + 1 → (after : ℕ) × OscillatesPast c stimuli start limit after
+reached-oscillates c stimuli start limit last count reached more = (last - start, reached-oscillates_at c stimuli start limit last count reached more)
+
+differ-no_now : (before : List (List Word)) → differ before [] ≡ false
+differ-no_now [] = refl
+differ-no_now (words ∷ before) = refl
+
+-- past the end of the one nothing differs
+pub differ-past : (before now : List (List Word)) (i : ℕ) → length now ≤ i → differ before (drop i now) ≡ false
+differ-past before now i past = at_drop_all (λ (l : List (List Word)). differ before l) now i past ∙ differ-no_now before

@@ -1,11 +1,14 @@
 -- Evaluations of parts, which a simulation counts: at which instants a part has one, and how many a stimulus takes.
 -- Source: the Logisim-evolution user guide, Value propagation (a component is asked again where its inputs change), counted by this project.
-use Rattle.std.specs.Prelude.{◌≡◌, ℕ, zero, suc, ◌+◌, ◌-◌, Bool, true, not, List, map}
+use Rattle.std.specs.Prelude.{◌≡◌, ℕ, zero, suc, ◌+◌, ◌-◌, ◌^◌, min, Bool, true, not, List, map}
 use Rattle.std.specs.List.{count_by}
 use Rattle.lg_value.specs.declared.bit.Bit.{Bit}
 use Rattle.lg_timing.specs.Circuit.{Word, Port, Part, Circuit, Stimulus}
 use Rattle.lg_timing.specs.Instant.{Numbered, numbered_parts, instant_at}
-use Rattle.lg_timing.specs.Settling.{same_words}
+use Rattle.lg_timing.specs.declared.run.Settling.{Settling}
+use Rattle.lg_timing.specs.declared.run.Settling.TheVariants.{Settled, Oscillates}
+use Rattle.lg_timing.specs.Settling.{same_words, SettlesWithin, OscillatesPast}
+use Rattle.lg_timing.specs.Configuration.{Configuration, nets_of}
 
 -- the bits on a part's inputs; a port to which nothing is attached has none
 abbrev pub bits_read : (ℕ → Bit) → Part → List Word
@@ -20,6 +23,11 @@ is_evaluated c stimuli (suc t) p = not (same_words (bits_read (instant_at c stim
 abbrev pub evaluations_at : Circuit → List Stimulus → ℕ → ℕ
 evaluations_at c stimuli t = count_by (is_evaluated c stimuli t) (numbered_parts c)
 
+-- how many there are where one configuration comes after another
+abbrev pub evaluations_between : Circuit → Configuration → Configuration → ℕ
+evaluations_between c before now =
+    count_by (λ (p : Numbered). not (same_words (bits_read (nets_of c before) p.1) (bits_read (nets_of c now) p.1))) (numbered_parts c)
+
 -- how many there are at so many instants, from one on
 unfoldable pub evaluations : Circuit → List Stimulus → ℕ → ℕ → ℕ
 evaluations c stimuli start zero = 0
@@ -32,3 +40,14 @@ evaluations_settled c stimuli start settled = evaluations c stimuli start (settl
 -- one that oscillates takes those before the busy instant past the limit, which is so many instants after it
 abbrev pub evaluations_oscillating : Circuit → List Stimulus → ℕ → ℕ → ℕ
 evaluations_oscillating c stimuli start after = evaluations c stimuli start after
+
+-- a number as far as 64 bits count
+abbrev pub counted : ℕ → ℕ
+counted n = min n (2 ^ 64 - 1)
+
+-- what becomes of the last stimulus, which stands at an instant, and how many evaluations it takes
+abbrev pub IsSettling : Circuit → List Stimulus → ℕ → ℕ → Settling → Type 0
+IsSettling c stimuli start limit (Settled took count) =
+    SettlesWithin c stimuli start limit (start + took) × (count ≡ counted (evaluations_settled c stimuli start (start + took)))
+IsSettling c stimuli start limit (Oscillates busy count) =
+    OscillatesPast c stimuli start limit busy × (count ≡ counted (evaluations_oscillating c stimuli start busy))

@@ -3,8 +3,8 @@
 ghost use Rattle.std.specs.Prelude.{◌≡◌, ◌+◌, ◌^◌, ◌<◌, ◌++◌, ◌∷◌, [], true, IfOk, map, drop, replicate, slice_index_or};
 ghost use Rattle.std.specs.List.{list_all};
 ghost use Rattle.lg_timing.specs.Instant.{Numbered, numbered_parts, unknown_words, value_at};
-ghost use Rattle.lg_timing.specs.Configuration.{configuration_at, first, next, going_on, stepped, nets_of, stimulus_of, HaveDelays};
-ghost use Rattle.lg_timing.specs.Plain.{IsWellFormed, circuit_of, is_port};
+ghost use Rattle.lg_timing.specs.Configuration.{configuration_at, first, next, going_on, nets_of, HaveDelays};
+ghost use Rattle.lg_timing.specs.Plain.{IsWellFormed, circuit_of, is_port, all_inputs};
 ghost use Rattle.lg_timing.specs.Stepping.{first_due, steps_from, dues_from, unknown_dues};
 
 use crate::drivers::net_bit;
@@ -252,4 +252,91 @@ impl Configuration {
     {
         net_bit(circuit, &self.stimulus, self.shown.as_slice(), net)
     }
+
+    /// What each part shows.
+    pub(crate) fn shown(&self) -> &[Words]
+        ensures { result.now ≡ self.now.shown }
+    {
+        self.shown.as_slice()
+    }
+
+    /// The words on the inputs of every part.
+    pub(crate) fn inputs<P: Behaviour>(
+        &self,
+        alloc: Global,
+        circuit: &Circuit<P>,
+    ) -> Result<Vec<Words>, AllocError>
+        requires { IsWellFormed (circuit_of P.meaning circuit.now) }
+        ensures { IfOk result (λ inputs. inputs.items ≡
+            all_inputs (circuit_of P.meaning circuit.now) (nets_of (circuit_of P.meaning circuit.now) self.now)) }
+    {
+        all_inputs(alloc, circuit, &self.stimulus, self.shown.as_slice())
+    }
+
+    /// The configuration so many instants after this one, which stands at an instant.
+    ///
+    /// # Errors
+    ///
+    /// There was no memory.
+    pub fn go_on<P: Behaviour>(
+        self,
+        alloc: Global,
+        circuit: &Circuit<P>,
+        stimuli: &[Stimulus],
+        at: u64,
+        count: u64,
+    ) -> Result<Configuration, AllocError>
+        requires well_formed { IsWellFormed (circuit_of P.meaning circuit.now) }
+        requires early { at + count < 2 ^ 64 }
+        ensures { IfOk result (λ k. k ≡ going_on (circuit_of P.meaning circuit.now) stimuli.now at self count) }
+    {
+        let silent = silence(alloc);
+        let mut configuration = self;
+        for i in 0..count {
+            let stimulus = in_force(&silent, stimuli, at + i + 1);
+            configuration = configuration.next(alloc, circuit, stimulus)?;
+        }
+        Ok(configuration)
+    }
+
+    /// The configuration at an instant.
+    ///
+    /// # Errors
+    ///
+    /// There was no memory.
+    pub fn at<P: Behaviour>(
+        alloc: Global,
+        circuit: &Circuit<P>,
+        stimuli: &[Stimulus],
+        instant: u64,
+    ) -> Result<Configuration, AllocError>
+        requires well_formed { IsWellFormed (circuit_of P.meaning circuit.now) }
+        requires delays { HaveDelays (circuit_of P.meaning circuit.now) }
+        ensures { IfOk result (λ k. k ≡ configuration_at (circuit_of P.meaning circuit.now) stimuli.now instant) }
+    {
+        let silent = silence(alloc);
+        let first = Configuration::first(alloc, circuit, in_force(&silent, stimuli, 0))?;
+        first.go_on(alloc, circuit, stimuli, 0, instant)
+    }
+}
+
+/// The value of a net at an instant, by a configuration alone: it is that of `value_at`.
+///
+/// # Errors
+///
+/// There was no memory.
+pub fn stepped_value_at<P: Behaviour>(
+    alloc: Global,
+    circuit: &Circuit<P>,
+    stimuli: &[Stimulus],
+    instant: u64,
+    net: u32,
+) -> Result<Bit, AllocError>
+    requires well_formed { IsWellFormed (circuit_of P.meaning circuit.now) }
+    requires delays { HaveDelays (circuit_of P.meaning circuit.now) }
+    ensures { IfOk result (λ bit.
+        bit ≡ value_at (circuit_of P.meaning circuit.now) stimuli.now instant net) }
+{
+    let configuration = Configuration::at(alloc, circuit, stimuli, instant)?;
+    Ok(configuration.value(circuit, net))
 }

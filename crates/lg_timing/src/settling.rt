@@ -19,12 +19,14 @@ pub(crate) enum Ending {
     Oscillates,
 }
 
-// Whether some words differ from those before.
-fn differ(before: &[Words], now: &[Words]) -> bool
-    requires { length before.now ≡ length now.now }
+/// Whether some words differ from those before.
+pub(crate) fn differ(before: &[Words], now: &[Words]) -> bool
     ensures { result ≡ differ before.now now.now }
 {
     for i in 0..before.len() {
+        if i >= now.len() {
+            return false;
+        }
         if before[i].words() != now[i].words() {
             return true;
         }
@@ -77,8 +79,8 @@ fn next_busy<P: Behaviour>(
     Ok(false)
 }
 
-// The greatest delay of some parts.
-fn greatest_delay<P: Behaviour>(parts: &[P]) -> u32
+/// The greatest delay of some parts.
+pub(crate) fn greatest_delay<P: Behaviour>(parts: &[P]) -> u32
     ensures { result ≡ greatest_delay (map P.meaning parts.now) }
 {
     let mut greatest = 0;

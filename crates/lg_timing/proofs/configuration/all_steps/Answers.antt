@@ -1,9 +1,6 @@
 use Rattle.std.proofs.Common.{length, ap, arith}
-use Rattle.std.specs.List.{list_all}
-use Rattle.lg_timing.specs.Circuit.{Part}
-use Rattle.lg_timing.specs.Plain.{is_port}
 use Rattle.lg_timing.specs.Stepping.{steps_from}
-use Rattle.lg_timing.proofs.PartSteps.{list_all-meaning, numbered_more, numbered_all, element-along}
+use Rattle.lg_timing.proofs.PartSteps.{numbered_more, numbered_all, element-along}
 use Rattle.lg_timing.proofs.configuration.all_steps.Goals as goal
 
 pub loop-i-preserved : goal.loop-i-preserved

@@ -3,13 +3,6 @@ use Rattle.lg_timing.specs.Plain.{circuit_of, all_outputs}
 use Rattle.lg_timing.proofs.RunLemmas.{length-all_outputs, differ-is_busy, rest-is}
 use Rattle.lg_timing.proofs.settling.is_busy.Goals as goal
 
-pub differ-requires : goal.differ-requires
-differ-requires g c =
-    let circuit = circuit_of g.P.Behaviour.meaning c.args.circuit.now in
-    let before = c.as_slice.ensures.value ∙ c.in_ok-before.ensures ∙ ap (all_outputs circuit) (rest-is c.args.past.now) in
-    let now = c.as_slice-2.ensures.value ∙ c.in_ok-now.ensures in
-    ap length before ∙ length-all_outputs circuit _ ∙ sym (ap length now ∙ length-all_outputs circuit _)
-
 pub returns : goal.returns
 returns g c =
     let circuit = circuit_of g.P.Behaviour.meaning c.args.circuit.now in
