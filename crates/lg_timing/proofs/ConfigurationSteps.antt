@@ -116,10 +116,10 @@ configuration-first c stimuli delays =
     (λ p now. p.1.step p.1.start (unknown_words p.1.inputs) now)
     (λ p. replicate (p.1.delay - 1) (unknown_words p.1.outputs))
     (map_at (λ (p : Numbered). unknown_words p.1.outputs) (output_words []) (numbered_parts c) (λ i d inside.
-        let p : Numbered = get_or (numbered_parts c) i d in ap (answered p) (sym (none_before (p.1.delay - 1)))))
+    let p : Numbered = get_or (numbered_parts c) i d in ap (answered p) (sym (none_before (p.1.delay - 1)))))
     (λ i d inside.
-        let p : Numbered = get_or (numbered_parts c) i d in
-        (refl, due-begun (instant_after c s []) p p.1.delay (least i d inside))))
+    let p : Numbered = get_or (numbered_parts c) i d in
+    (refl, due-begun (instant_after c s []) p p.1.delay (least i d inside))))
 
 -- under any stimulus the next instant has the next configuration
 pub configuration-under : (c : Circuit) (stimuli : List Stimulus) (s : Stimulus) (t : ℕ) → HaveDelays c → configuration_after c s (timeline c stimuli (suc t)) ≡ next c s (configuration_at c stimuli t)
@@ -133,15 +133,14 @@ configuration-under c stimuli s t delays =
     (λ p now. p.1.step (slice_index_or k.states p.0 []) (input_words (nets_of c k) p.1) now)
     (λ p. drop 1 (due_of k p))
     (map_at (λ (p : Numbered). slice_index_or (due_of k p) 0 []) (output_words past) (numbered_parts c) (λ i d inside.
-        let p : Numbered = get_or (numbered_parts c) i d in
-        ap (λ (l : List (List Word)). slice_index_or l 0 []) (listed i d inside) ∙ due-first past p p.1.delay (least i d inside)))
+    let p : Numbered = get_or (numbered_parts c) i d in
+    ap (λ (l : List (List Word)). slice_index_or l 0 []) (listed i d inside) ∙ due-first past p p.1.delay (least i d inside)))
     (λ i d inside.
-        let p : Numbered = get_or (numbered_parts c) i d in
-        (
-          ap (λ (bits : ℕ → Bit). p.1.step (slice_index_or k.states p.0 []) (input_words bits p.1) (input_words (net_bit c s past) p.1)) (nets_shown-is c (stimulus_of k) (timeline c stimuli t)),
-          ap (λ (l : List (List Word)). drop 1 l ++ answered p (Some (instant_after c s past)) ∷ []) (listed i d inside)
+    let p : Numbered = get_or (numbered_parts c) i d in (
+      ap (λ (bits : ℕ → Bit). p.1.step (slice_index_or k.states p.0 []) (input_words bits p.1) (input_words (net_bit c s past) p.1)) (nets_shown-is c (stimulus_of k) (timeline c stimuli t)),
+      ap (λ (l : List (List Word)). drop 1 l ++ answered p (Some (instant_after c s past)) ∷ []) (listed i d inside)
           ∙ due-moves past (instant_after c s past) p p.1.delay (least i d inside),
-        )))
+    )))
 
 pub configuration-next : (c : Circuit) (stimuli : List Stimulus) (t : ℕ) → HaveDelays c → configuration_at c stimuli (suc t) ≡ next c (in_force stimuli (suc t)) (configuration_at c stimuli t)
 unfolding timeline

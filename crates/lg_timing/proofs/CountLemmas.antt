@@ -1,5 +1,5 @@
 -- How the run with a configuration alone counts evaluations.
-use Rattle.std.proofs.Common.{◌≡◌, ℕ, zero, suc, ◌+◌, ◌-◌, ◌^◌, ◌<◌, ◌≤◌, min, Bool, true, false, cond, List, [], ◌∷◌, length, map, drop, inl, inr, sym, refl, ap, ◌∙◌, subst, arith}
+use Rattle.std.proofs.Common.{◌≡◌, ℕ, suc, ◌+◌, ◌-◌, ◌≤◌, Bool, true, false, cond, List, [], ◌∷◌, length, map, drop, sym, refl, ap, ◌∙◌, arith}
 use Rattle.std.specs.Prelude.{not}
 use Rattle.std.specs.Bool.{Decides}
 use Rattle.std.specs.List.{count_by}
@@ -8,10 +8,10 @@ use Rattle.std.proofs.lemmas.List.Sums.{sum_by-cons}
 use Rattle.lg_value.specs.declared.bit.Bit.{Bit}
 use Rattle.lg_timing.specs.declared.run.Run.{Run}
 use Rattle.lg_timing.specs.Circuit.{Word, Port, Part, Circuit, Stimulus}
-use Rattle.lg_timing.specs.Instant.{Instant, Numbered, numbered_parts, word_at, input_words, in_force, timeline, instant_at, outputs_at}
+use Rattle.lg_timing.specs.Instant.{Numbered, numbered_parts, word_at, input_words, in_force, instant_at, outputs_at}
 use Rattle.lg_timing.specs.Settling.{same_words, is_busy, SettlesAt, StayFrom}
 use Rattle.lg_timing.specs.Configuration.{Configuration, configuration_at, nets_of, next, HaveDelays}
-use Rattle.lg_timing.specs.Evaluation.{bits_read, is_evaluated, evaluations_at, evaluations, evaluations_between, evaluations_settled, counted}
+use Rattle.lg_timing.specs.Evaluation.{bits_read, evaluations_at, evaluations, evaluations_between, evaluations_settled, counted}
 use Rattle.lg_timing.specs.Plain.{all_inputs, differ}
 use Rattle.lg_timing.specs.Stepping.{differing, IsRun, RunSteps}
 use Rattle.lg_timing.proofs.Timeline.{in_force-stays}

@@ -1,21 +1,19 @@
 -- Where a part has no evaluation it answers as before, and after all has settled there is none.
-use Rattle.std.proofs.Common.{◌≡◌, ℕ, zero, suc, ◌+◌, ◌-◌, ◌<◌, ◌≤◌, Bool, true, false, cond, List, [], ◌∷◌, ◌++◌, length, map, get_or, Some, sym, refl, ap, ◌∙◌, arith}
-use Rattle.std.specs.Prelude.{not, All, replicate}
+use Rattle.std.proofs.Common.{◌≡◌, ℕ, zero, suc, ◌+◌, ◌-◌, ◌<◌, ◌≤◌, Bool, true, false, cond, List, [], ◌∷◌, length, map, get_or, Some, sym, refl, ap, ◌∙◌, arith}
+use Rattle.std.specs.Prelude.{not, All}
 use Rattle.std.specs.List.{count_by}
 use Rattle.std.proofs.lemmas.Bool.{not-false}
 use Rattle.std.proofs.lemmas.List.Elements.{All-head, All-tail}
 use Rattle.std.proofs.lemmas.List.Sums.{sum_by-cons}
 use Rattle.std.proofs.lemmas.List.FromFn.{length-enumerate_from}
 use Rattle.lg_value.specs.declared.bit.Bit.{Bit}
-use Rattle.lg_value.specs.declared.bit.Bit.TheVariants.{Unknown}
-use Rattle.lg_timing.specs.Circuit.{Word, Port, Part, Circuit, Stimulus}
-use Rattle.lg_timing.specs.Instant.{Instant, Numbered, numbered_parts, answered, word_at, input_words, state_of, next_state, net_bit, in_force, timeline, instant_at, outputs_at}
-use Rattle.lg_timing.specs.Settling.{same_words, is_busy, SettlesAt, IsSteady, StayFrom, StandAfter}
+use Rattle.lg_timing.specs.Circuit.{Word, Port, Circuit, Stimulus}
+use Rattle.lg_timing.specs.Instant.{Instant, Numbered, numbered_parts, answered, word_at, input_words, state_of, next_state, net_bit, in_force, timeline, instant_at}
+use Rattle.lg_timing.specs.Settling.{same_words, is_busy, SettlesAt, IsSteady, StayFrom}
 use Rattle.lg_timing.specs.Evaluation.{bits_read, is_evaluated, evaluations_at, evaluations}
 use Rattle.lg_timing.proofs.Timeline.{in_force-stays}
 use Rattle.lg_timing.proofs.Outputs.{Decides-same_words, SameOutputs-from_quiet, net_bit_alike}
 use Rattle.lg_timing.proofs.Instants.{next_state_again, state_of_next, steady_numbered}
-use Rattle.lg_timing.proofs.LaterStimuli.{instant_at-later}
 
 count_by-all : {X : Type 0} (xs : List X) → count_by (λ x. true) xs ≡ length xs
 count_by-all [] = refl

@@ -1,17 +1,16 @@
 -- The timeline of a NOT gate, by computing and by the law of settling.
-use Rattle.std.proofs.Common.{◌≡◌, ℕ, zero, suc, ◌+◌, ◌-◌, ◌<◌, ◌≤◌, true, false, List, [], ◌∷◌, inl, inr, sym, refl, ap, ◌∙◌, subst, arith}
+use Rattle.std.proofs.Common.{◌≡◌, ℕ, zero, suc, ◌+◌, ◌-◌, ◌<◌, ◌≤◌, true, false, [], ◌∷◌, inr, sym, refl, ap, ◌∙◌, subst, arith}
 use Rattle.std.specs.Prelude.{All}
 use Rattle.std.proofs.lemmas.List.Elements.{All-nil, All-cons}
-use Rattle.lg_value.specs.declared.bit.Bit.{Bit}
 use Rattle.lg_value.specs.declared.bit.Bit.TheVariants.{Zero, One, Unknown}
-use Rattle.lg_timing.specs.Circuit.{Word, Part, Stimulus}
+use Rattle.lg_timing.specs.Circuit.{Stimulus}
 use Rattle.lg_value.specs.Drivers.{join_of_drivers}
 use Rattle.lg_timing.specs.Instant.{Instant, timeline, instant_at, in_force}
 use Rattle.lg_timing.specs.Settling.{is_busy, busy_count, SettlesAt, SettlesWithin, IsSteady, StayFrom}
 use Rattle.lg_timing.specs.Session.{set_at, IsTable}
 use Rattle.lg_timing.specs.Samples.{one_word, not_gate}
 use Rattle.lg_timing.specs.NotGate.{port_on, not_circuit, row_0, both_rows, Shows, not_table}
-use Rattle.lg_timing.proofs.Stretch.{QuietUpTo, quiet_after_stretch}
+use Rattle.lg_timing.proofs.Stretch.{quiet_after_stretch}
 use Rattle.lg_timing.proofs.Timeline.{in_force-stays}
 use Rattle.lg_timing.proofs.Outputs.{SameOutputs-from_quiet}
 use Rattle.lg_timing.proofs.Instants.{instant_again}

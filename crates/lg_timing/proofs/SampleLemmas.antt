@@ -1,15 +1,15 @@
 -- The parts of the tests are steady.
-use Rattle.std.proofs.Common.{◌≡◌, false, List, refl, arith}
+use Rattle.std.proofs.Common.{◌≡◌, ℕ, ◌≤◌, false, List, refl, arith}
 use Rattle.std.specs.Prelude.{◌&&◌}
 use Rattle.lg_value.specs.declared.bit.Bit.{Bit}
 use Rattle.lg_value.specs.declared.bit.Bit.TheVariants.{Zero, One, Unknown, Error}
 use Rattle.lg_value.specs.Bit.{same_bit}
 use Rattle.lg_timing.specs.Circuit.{Word, Port}
 use Rattle.lg_timing.specs.Settling.{IsSteady}
-use Rattle.lg_timing.specs.Samples.{gate, flip_flop, rises, bit_in}
+use Rattle.lg_timing.specs.Samples.{gate_in, flip_flop, rises, bit_in}
 
-pub steady_gate : (f : List Word → List Word) (inputs outputs : List Port) → IsSteady 5 (gate f inputs outputs)
-steady_gate f inputs outputs = record { least_delay = omega arith; greatest_delay = omega arith; second_step = λ state before now. refl }
+pub steady_gate : (delay : ℕ) (f : List Word → List Word) (inputs outputs : List Port) → 1 ≤ delay → delay ≤ 5 → IsSteady 5 (gate_in delay f inputs outputs)
+steady_gate delay f inputs outputs least most = record { least_delay = least; greatest_delay = most; second_step = λ state before now. refl }
 
 no_rise : (b : Bit) → (same_bit b Zero && same_bit b One) ≡ false
 no_rise Zero = refl

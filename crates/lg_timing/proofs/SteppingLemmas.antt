@@ -1,6 +1,6 @@
 -- The program that keeps a configuration alone makes the next one.
 use Rattle.std.proofs.Common.{◌≡◌, ℕ, zero, suc, ◌+◌, ◌-◌, ◌<◌, ◌≤◌, List, [], ◌∷◌, ◌++◌, length, get_or, map, drop, take, inl, inr, sym, refl, ap, ◌∙◌, arith, take_all}
-use Rattle.std.specs.Prelude.{replicate, slice_get, slice_index_or}
+use Rattle.std.specs.Prelude.{replicate, slice_index_or}
 use Rattle.std.specs.List.{enumerate_from, flat_map}
 use Rattle.std.proofs.lemmas.Bool.{cases_lt}
 use Rattle.std.proofs.lemmas.List.{at_drop_more, at_drop_all, map_more, length-map}
@@ -11,8 +11,8 @@ use Rattle.lg_value.specs.Drivers.{joined_in_turn, join_of_drivers}
 use Rattle.lg_value.proofs.DriverLemmas.{joined_in_turn_lem}
 use Rattle.lg_timing.specs.Circuit.{Word, Port, Part, Circuit, Stimulus}
 use Rattle.lg_timing.specs.Instant.{Numbered, numbered_parts, unknown_words, input_words, words_on, bits_on, pulls_of, or_else}
-use Rattle.lg_timing.specs.Configuration.{Configuration, drivers_shown, nets_shown, stimulus_of, nets_of, stepped, first, due_of, next}
-use Rattle.lg_timing.specs.Plain.{Seen, parts_on, bit_from, outputs_after, all_outputs, all_inputs, all_states}
+use Rattle.lg_timing.specs.Configuration.{Configuration, drivers_shown, nets_shown, nets_of, first, due_of, next}
+use Rattle.lg_timing.specs.Plain.{parts_on, bit_from, outputs_after, all_outputs, all_inputs, all_states}
 use Rattle.lg_timing.specs.Stepping.{of_part, first_due, steps_from, dues_from, unknown_dues}
 use Rattle.lg_timing.proofs.DriverSteps.{words_on-no_word, parts_on-no_word}
 use Rattle.lg_timing.proofs.SeenLemmas.{map_at}

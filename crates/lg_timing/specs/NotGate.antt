@@ -3,10 +3,10 @@
 use Rattle.std.specs.Prelude.{◌≡◌, ℕ, Bool, List, [], ◌∷◌, None}
 use Rattle.lg_value.specs.declared.bit.Bit.{Bit}
 use Rattle.lg_value.specs.declared.bit.Bit.TheVariants.{Zero, One}
-use Rattle.lg_timing.specs.Circuit.{Word, Port, Circuit, Stimulus}
+use Rattle.lg_timing.specs.Circuit.{Port, Circuit, Stimulus}
 use Rattle.lg_timing.specs.Instant.{value_at}
 use Rattle.lg_timing.specs.Settling.{is_busy}
-use Rattle.lg_timing.specs.Session.{Line, Table, set_at}
+use Rattle.lg_timing.specs.Session.{Table, set_at}
 use Rattle.lg_timing.specs.Evaluation.{evaluations_at}
 use Rattle.lg_timing.specs.Samples.{one_word, not_gate}
 

@@ -1,4 +1,4 @@
--- The parts of the tests: gates, a constant and a flip-flop, with ports of one bit.
+-- The parts of the tests: gates, a constant, delay lines and a flip-flop, with ports of one bit.
 use Rattle.std.specs.Prelude.{ℕ, Bool, ◌&&◌, List, [], ◌∷◌, slice_index_or, if◌then◌else◌}
 use Rattle.lg_value.specs.declared.bit.Bit.{Bit}
 use Rattle.lg_value.specs.declared.bit.Bit.TheVariants.{Zero, One, Unknown, Error}
@@ -25,10 +25,10 @@ one_word b = (b ∷ []) ∷ []
 abbrev pub rises : List Word → List Word → Bool
 rises before now = same_bit (bit_in before 1) Zero && same_bit (bit_in now 1) One
 
--- a part without a state, with a delay of 1
-abbrev pub gate : (List Word → List Word) → List Port → List Port → Part
-gate f inputs outputs = record {
-  delay = 1;
+-- a part without a state
+abbrev pub gate_in : ℕ → (List Word → List Word) → List Port → List Port → Part
+gate_in delay f inputs outputs = record {
+  delay = delay;
   inputs = inputs;
   outputs = outputs;
   start = [];
@@ -36,11 +36,22 @@ gate f inputs outputs = record {
   out = λ state now. f now;
 }
 
+-- with a delay of 1
+abbrev pub gate : (List Word → List Word) → List Port → List Port → Part
+gate = gate_in 1
+
 abbrev pub not_gate : List Port → List Port → Part
 not_gate = gate (λ now. one_word (not_bit (bit_in now 0)))
 
 abbrev pub and_gate : List Port → List Port → Part
 and_gate = gate (λ now. one_word (and_bit (bit_in now 0) (bit_in now 1)))
+
+abbrev pub nand_gate : List Port → List Port → Part
+nand_gate = gate (λ now. one_word (not_bit (and_bit (bit_in now 0) (bit_in now 1))))
+
+-- it gives its input as it is, after 3 or 5 instants
+abbrev pub line_in : ℕ → List Port → List Port → Part
+line_in delay = gate_in delay (λ now. one_word (bit_in now 0))
 
 abbrev pub constant : List Port → List Port → Part
 constant = gate (λ now. one_word One)

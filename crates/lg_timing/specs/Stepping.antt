@@ -6,7 +6,7 @@ use Rattle.lg_timing.specs.Instant.{Numbered, unknown_words}
 use Rattle.lg_timing.specs.Settling.{same_words}
 use Rattle.lg_timing.specs.Configuration.{configuration_at, next}
 use Rattle.lg_timing.specs.Evaluation.{evaluations_at, evaluations, evaluations_between, counted}
-use Rattle.lg_timing.specs.Plain.{differ, SearchEnds}
+use Rattle.lg_timing.specs.Plain.{differ}
 
 -- the words of a part in a list for all parts
 abbrev pub of_part : List (List Word) → Numbered → List Word

@@ -61,11 +61,11 @@ impl Model for Configuration {
     ghost Value = { Configuration };
 
     ghost view = { λ k. record {
-        words = k.stimulus.words;
-        clock = k.stimulus.clock;
-        states = k.states.items;
-        shown = k.shown.items;
-        due = k.due.items;
+      words = k.stimulus.words;
+      clock = k.stimulus.clock;
+      states = k.states.items;
+      shown = k.shown.items;
+      due = k.due.items;
     } };
 }
 
@@ -184,13 +184,18 @@ fn all_unknown_due<P: Behaviour>(
 }
 
 impl Configuration {
-    fn new(stimulus: Stimulus, states: Vec<Words>, shown: Vec<Words>, due: Vec<Due>) -> Configuration
+    fn new(
+        stimulus: Stimulus,
+        states: Vec<Words>,
+        shown: Vec<Words>,
+        due: Vec<Due>,
+    ) -> Configuration
         ensures { result ≡ record {
-            words = stimulus.words;
-            clock = stimulus.clock;
-            states = states.items;
-            shown = shown.items;
-            due = due.items;
+          words = stimulus.words;
+          clock = stimulus.clock;
+          states = states.items;
+          shown = shown.items;
+          due = due.items;
         } }
     {
         Configuration {
@@ -218,7 +223,13 @@ impl Configuration {
         let now = all_inputs(alloc, circuit, stimulus, shown.as_slice())?;
         let states = all_states(alloc, circuit, &[], now.as_slice())?;
         let unknown = all_unknown_due(alloc, circuit)?;
-        let due = all_due(alloc, circuit, unknown.as_slice(), states.as_slice(), now.as_slice())?;
+        let due = all_due(
+            alloc,
+            circuit,
+            unknown.as_slice(),
+            states.as_slice(),
+            now.as_slice(),
+        )?;
         Ok(Configuration::new(stimulus.copy(alloc)?, states, shown, due))
     }
 

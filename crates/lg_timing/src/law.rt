@@ -3,13 +3,13 @@
 ghost use Rattle.std.specs.Prelude.{◌≡◌, ℕ, ◌+◌, ◌<◌, ◌≤◌, ◌++◌, true, false, List, [], ◌∷◌, length, Some, ◌⊎◌, All};
 ghost use Rattle.lg_value.specs.declared.bit.Bit.{Bit};
 ghost use Rattle.lg_timing.specs.Circuit.{Word, Port, Circuit, Stimulus};
-ghost use Rattle.lg_timing.specs.Instant.{Numbered, numbered_parts, answered, in_force, instant_at, outputs_at};
+ghost use Rattle.lg_timing.specs.Instant.{Numbered, numbered_parts, answered, in_force, instant_at, value_at, outputs_at};
 ghost use Rattle.lg_timing.specs.Session.{Table, IsTable};
 ghost use Rattle.lg_timing.specs.Settling.{is_busy, SettlesAt, SettlesWithin, OscillatesPast, IsSteady, StayFrom, StandAfter};
-ghost use Rattle.lg_timing.specs.Evaluation.{is_evaluated, evaluations_at};
+ghost use Rattle.lg_timing.specs.Evaluation.{is_evaluated, evaluations_at, evaluations_between};
 ghost use Rattle.lg_timing.specs.Samples.{one_word};
 ghost use Rattle.lg_timing.specs.NotGate.{not_circuit, row_0, both_rows, Shows, not_table};
-ghost use Rattle.lg_timing.specs.Configuration.{Configuration, configuration_at, first, next, going_on, shifted, SamePut, stimulus_of, IsStill, IsAtRest, HaveDelays};
+ghost use Rattle.lg_timing.specs.Configuration.{Configuration, configuration_at, first, next, going_on, nets_of, shifted, SamePut, stimulus_of, IsStill, IsAtRest, HaveDelays};
 
 /// A law: while its stimulus stays, a circuit of steady parts either settles within a limit of busy
 /// instants or oscillates past it, and never both.
@@ -64,6 +64,8 @@ pub fn configurations_go_on()
         → configuration_at c stimuli 0 ≡ first c (in_force stimuli 0) }
     ensures next { (c : Circuit) (stimuli : List Stimulus) (t : ℕ) → HaveDelays c
         → configuration_at c stimuli (t + 1) ≡ next c (in_force stimuli (t + 1)) (configuration_at c stimuli t) }
+    ensures values { (c : Circuit) (stimuli : List Stimulus) (t net : ℕ)
+        → nets_of c (configuration_at c stimuli t) net ≡ value_at c stimuli t net }
     ensures later { (c : Circuit) (stimuli : List Stimulus) (t n : ℕ) → HaveDelays c
         → configuration_at c stimuli (t + n) ≡ going_on c stimuli t (configuration_at c stimuli t) n }
     // What comes after an instant is a function of its configuration and of the stimuli after it.
@@ -85,10 +87,12 @@ pub fn configurations_go_on()
 /// A law: what the evaluations of parts tell.
 pub fn evaluations_are_counted()
     ensures first { (c : Circuit) (stimuli : List Stimulus) → evaluations_at c stimuli 0 ≡ length c.parts }
+    ensures between { (c : Circuit) (stimuli : List Stimulus) (t : ℕ)
+        → evaluations_between c (configuration_at c stimuli t) (configuration_at c stimuli (t + 1)) ≡ evaluations_at c stimuli (t + 1) }
     // A steady part without an evaluation answers as at the instant before.
     ensures others { (greatest : ℕ) (c : Circuit) (stimuli : List Stimulus) (t : ℕ) → All (IsSteady greatest) c.parts
         → All (λ (p : Numbered). is_evaluated c stimuli (t + 1) p ≡ false
-            → answered p (Some (instant_at c stimuli (t + 1))) ≡ answered p (Some (instant_at c stimuli t))) (numbered_parts c) }
+        → answered p (Some (instant_at c stimuli (t + 1))) ≡ answered p (Some (instant_at c stimuli t))) (numbered_parts c) }
     ensures unattached { (c : Circuit) (stimuli : List Stimulus) (t : ℕ) (p : Numbered)
         → All (λ (port : Port). port.nets ≡ []) p.1.inputs → is_evaluated c stimuli (t + 1) p ≡ false }
     // After all has settled there is none.

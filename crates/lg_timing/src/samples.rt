@@ -1,4 +1,4 @@
-//! Parts of the tests: gates, a constant and a flip-flop, with ports of one bit.
+//! Parts of the tests: gates, a constant, delay lines and a flip-flop, with ports of one bit.
 
 ghost use Rattle.std.specs.Prelude.{◌≡◌, IfOk};
 ghost use Rattle.lg_timing.specs.Samples.{bit_in, one_word, and_bit, rises};
@@ -13,6 +13,11 @@ use std::alloc::{AllocError, Global};
 pub(crate) enum Kind {
     Not,
     And,
+    Nand,
+    /// It gives its input as it is, after 3 instants.
+    Line3,
+    /// The same after 5.
+    Line5,
     Constant,
     FlipFlop,
 }
@@ -69,19 +74,23 @@ fn rises(before: &[Word], now: &[Word]) -> bool
 }
 
 impl Behaviour for Sample {
-    ghost use Rattle.lg_timing.specs.declared.samples.Kind.TheVariants.{Not, And, Constant, FlipFlop};
-    ghost use Rattle.lg_timing.specs.Samples.{not_gate, and_gate, constant, flip_flop};
+    ghost use Rattle.lg_timing.specs.declared.samples.Kind.TheVariants.{Not, And, Nand, Line3, Line5, Constant, FlipFlop};
+    ghost use Rattle.lg_timing.specs.Samples.{not_gate, and_gate, nand_gate, line_in, constant, flip_flop};
 
     ghost meaning = { λ s. elim s.kind [
       | Not ↦ not_gate s.inputs.items s.outputs.items
       | And ↦ and_gate s.inputs.items s.outputs.items
+      | Nand ↦ nand_gate s.inputs.items s.outputs.items
+      | Line3 ↦ line_in 3 s.inputs.items s.outputs.items
+      | Line5 ↦ line_in 5 s.inputs.items s.outputs.items
       | Constant ↦ constant s.inputs.items s.outputs.items
       | FlipFlop ↦ flip_flop s.inputs.items s.outputs.items
     ] };
 
     fn delay(&self) -> u32 {
         match self.kind {
-            Kind::FlipFlop => 5,
+            Kind::Line3 => 3,
+            Kind::Line5 | Kind::FlipFlop => 5,
             _ => 1,
         }
     }
@@ -118,6 +127,11 @@ impl Behaviour for Sample {
         match self.kind {
             Kind::Not => one_word(alloc, not_bit(bit_in(inputs, 0))),
             Kind::And => one_word(alloc, and_bit(bit_in(inputs, 0), bit_in(inputs, 1))),
+            Kind::Nand => one_word(
+                alloc,
+                not_bit(and_bit(bit_in(inputs, 0), bit_in(inputs, 1))),
+            ),
+            Kind::Line3 | Kind::Line5 => one_word(alloc, bit_in(inputs, 0)),
             Kind::Constant => one_word(alloc, Bit::One),
             Kind::FlipFlop => {
                 let mut words = one_word(alloc, bit_in(state, 0))?;

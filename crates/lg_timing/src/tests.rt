@@ -100,6 +100,8 @@ fn expect_net(
     for (instant, bit) in want.iter().enumerate() {
         let found = value_at(alloc, circuit, stimuli, instant as u64, net)?;
         assert_eq!(rt; found, *bit, "net {net} at {instant}");
+        let stepped = stepped_value_at(alloc, circuit, stimuli, instant as u64, net)?;
+        assert_eq!(rt; stepped, *bit, "net {net} at {instant}");
     }
     Ok(())
 }
@@ -114,6 +116,22 @@ fn table_of(
 ) -> Result<Table, AllocError> {
     assert!(rt; is_well_formed(circuit));
     session(alloc, circuit, rows, limit)
+}
+
+// What becomes of a second stimulus of a circuit that is well formed, the first being at 0.
+fn settling_of(
+    rt: &impl Abort,
+    alloc: Global,
+    circuit: &Circuit<Sample>,
+    bits: (Bit, Bit),
+    from: u64,
+    limit: u32,
+) -> Result<Settling, AllocError> {
+    assert!(rt; is_well_formed(circuit));
+    let mut put = Vec::new(alloc);
+    put.push(Stimulus::new(0, words(alloc, &[bits.0])?, ZERO))?;
+    put.push(Stimulus::new(from, words(alloc, &[bits.1])?, ZERO))?;
+    settle(alloc, circuit, put.as_slice(), from, limit)
 }
 
 type Ticks = Option<(u64, u64)>;
@@ -201,6 +219,70 @@ fn change_runs_down_a_chain(rt: HostRuntime) -> Result<(), Fail> {
         &lines,
         None,
     )
+}
+
+#[test]
+fn pulse_shorter_than_a_delay_passes_a_chain(rt: HostRuntime) -> Result<(), Fail> {
+    let alloc = rt.alloc();
+    let parts: [(Kind, &[u32], &[u32]); 3] = [
+        (Kind::Not, &[0], &[1]),
+        (Kind::Line3, &[1], &[2]),
+        (Kind::Line5, &[2], &[3]),
+    ];
+    let chain = circuit(alloc, &parts, &[0], &[3], &[])?;
+    let put = stimuli(alloc, &[(0, ONE), (2, ZERO), (4, ONE)])?;
+    let not = [UNKNOWN, ZERO, ZERO, ONE, ONE, ZERO, ZERO];
+    let line = [
+        UNKNOWN, UNKNOWN, UNKNOWN, UNKNOWN, ZERO, ZERO, ONE, ONE, ZERO, ZERO,
+    ];
+    let last = [
+        UNKNOWN, UNKNOWN, UNKNOWN, UNKNOWN, UNKNOWN, UNKNOWN, UNKNOWN, UNKNOWN, UNKNOWN, ZERO,
+        ZERO, ONE, ONE, ZERO, ZERO,
+    ];
+    expect_net(&rt, alloc, &chain, put.as_slice(), 1, &not)?;
+    expect_net(&rt, alloc, &chain, put.as_slice(), 2, &line)?;
+    expect_net(&rt, alloc, &chain, put.as_slice(), 3, &last)?;
+    let lines = [(ONE, 9, None), (ZERO, 9, None)];
+    let rows = rows(alloc, &[ZERO, ONE])?;
+    expect_table(&rt, alloc, &chain, rows.as_slice(), 3, &lines, None)?;
+    let took = Settling::Settled {
+        took: 9,
+        evaluations: 3,
+    };
+    assert_eq!(rt; settling_of(&rt, alloc, &chain, (ZERO, ONE), 20, 3)?, took);
+    Ok(())
+}
+
+#[test]
+fn change_taken_back_before_it_came_out_comes_out(rt: HostRuntime) -> Result<(), Fail> {
+    let alloc = rt.alloc();
+    let line = circuit(alloc, &[(Kind::Line5, &[0], &[1])], &[0], &[1], &[])?;
+    let put = stimuli(alloc, &[(0, ZERO), (3, ONE), (4, ZERO)])?;
+    let want = [
+        UNKNOWN, UNKNOWN, UNKNOWN, UNKNOWN, UNKNOWN, ZERO, ZERO, ZERO, ONE, ZERO,
+    ];
+    expect_net(&rt, alloc, &line, put.as_slice(), 1, &want)?;
+    let both = Settling::Settled {
+        took: 5,
+        evaluations: 1,
+    };
+    assert_eq!(rt; settling_of(&rt, alloc, &line, (ZERO, ONE), 9, 1)?, both);
+    Ok(())
+}
+
+#[test]
+fn nand_loop_toggles_at_each_instant(rt: HostRuntime) -> Result<(), Fail> {
+    let alloc = rt.alloc();
+    let ring = circuit(alloc, &[(Kind::Nand, &[0, 1], &[1])], &[0], &[1], &[])?;
+    let put = stimuli(alloc, &[(0, ZERO), (4, ONE)])?;
+    let want = [UNKNOWN, ONE, ONE, ONE, ONE, ZERO, ONE, ZERO];
+    expect_net(&rt, alloc, &ring, put.as_slice(), 1, &want)?;
+    let past = Settling::Oscillates {
+        busy: 4,
+        evaluations: 4,
+    };
+    assert_eq!(rt; settling_of(&rt, alloc, &ring, (ZERO, ONE), 4, 3)?, past);
+    Ok(())
 }
 
 #[test]

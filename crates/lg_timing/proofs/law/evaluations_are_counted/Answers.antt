@@ -1,13 +1,18 @@
 use Rattle.std.proofs.Common.{◌≡◌, ◌+◌, suc, false, Some, subst, arith}
 use Rattle.std.specs.Prelude.{All}
 use Rattle.lg_timing.specs.Instant.{Numbered, numbered_parts, answered, instant_at}
-use Rattle.lg_timing.specs.Evaluation.{is_evaluated}
+use Rattle.lg_timing.specs.Evaluation.{is_evaluated, evaluations_at, evaluations_between}
 use Rattle.lg_timing.proofs.Evaluated.{evaluations-first, answer-unevaluated, unevaluated-unattached, none-settled}
+use Rattle.lg_timing.specs.Configuration.{configuration_at}
+use Rattle.lg_timing.proofs.CountLemmas.{evaluations_between-is}
 use Rattle.lg_timing.proofs.law.evaluations_are_counted.Goals as goal
 
 pub returns : goal.returns
 returns c = record {
   first = evaluations-first;
+  between = λ circuit stimuli t.
+      let same : suc t ≡ t + 1 = omega arith in
+      subst (λ u. evaluations_between circuit (configuration_at circuit stimuli t) (configuration_at circuit stimuli u) ≡ evaluations_at circuit stimuli u) same (evaluations_between-is circuit stimuli t);
   others = λ greatest circuit stimuli t steady.
       let same : suc t ≡ t + 1 = omega arith in
       subst (λ u. All (λ (p : Numbered). is_evaluated circuit stimuli u p ≡ false → answered p (Some (instant_at circuit stimuli u)) ≡ answered p (Some (instant_at circuit stimuli t))) (numbered_parts circuit)) same (answer-unevaluated greatest circuit stimuli t steady);

@@ -1,8 +1,8 @@
-use Rattle.std.proofs.Common.{◌≡◌, ◌+◌, ◌-◌, ◌<◌, ◌≤◌, ℕ, true, false, inl, inr, sym, ap, ◌∙◌, subst, arith}
+use Rattle.std.proofs.Common.{◌≡◌, ◌+◌, ◌-◌, inl, inr, sym, ap, ◌∙◌, arith}
 use Rattle.std.proofs.lemmas.Bool.{cases_lt}
 use Rattle.lg_timing.specs.Settling.{is_busy}
 use Rattle.lg_timing.specs.Plain.{circuit_of}
-use Rattle.lg_timing.proofs.CountLemmas.{RunGoesOn, run_steps}
+use Rattle.lg_timing.proofs.CountLemmas.{run_steps}
 use Rattle.lg_timing.proofs.run.next_busy.Goals as goal
 
 pub returns-then-branch-clause-is : goal.returns-then-branch-clause-is
@@ -16,8 +16,7 @@ returns-then-branch-clause-found g c =
     let circuit = circuit_of g.P.Behaviour.meaning c.args.circuit.now in
     let on = run_steps circuit c.args.stimuli.now c.args.start c.in_force-stimulus.result.now c.loop.run c.step.new.run c.in_ok-step.field-0 c.requires.delays c.requires.stay c.in_force-stimulus.ensures c.loop.invariant.is c.in_ok-step.ensures in
     let took : c.step.new.run.took ≡ c.loop.run.took + 1 = c.in_ok-step.ensures.took in
-    let last : c.args.start + c.step.new.run.took + 1 - 1 ≡ c.args.start + c.step.new.run.took = omega arith in
-    (
+    let last : c.args.start + c.step.new.run.took + 1 - 1 ≡ c.args.start + c.step.new.run.took = omega arith in (
       omega (arith, took, c.loop.invariant.took),
       ap (is_busy circuit c.args.stimuli.now) last ∙ sym on.tells ∙ c.if-branch.true,
       λ u after before. c.loop.invariant.quiet u after (omega (arith, before, took)),

@@ -1,4 +1,4 @@
-use Rattle.std.proofs.Common.{◌≡◌, ◌+◌, ◌-◌, ◌*◌, ◌≤◌, ℕ, map, refl, ap, ◌∙◌, subst, arith}
+use Rattle.std.proofs.Common.{◌≡◌, ◌+◌, ◌-◌, ◌≤◌, ℕ, map, refl, ap, ◌∙◌, subst, arith}
 use Rattle.lg_timing.specs.Settling.{OscillatesPast}
 use Rattle.lg_timing.specs.Evaluation.{evaluations, counted}
 use Rattle.lg_timing.specs.Plain.{circuit_of, greatest_delay, SearchEnds}
@@ -24,11 +24,10 @@ returns-then-not-branch g c =
     let ends = subst (λ (k : ℕ). SearchEnds circuit c.args.stimuli.now (c.args.start + k + 1) c.greatest_delay-reach.result (c.args.start + c.next_busy.new.run.took + 1) c.in_ok-next_busy.field-0) c.loop.invariant.here c.in_ok-next_busy.ensures.found in
     let settles = reached-settles circuit c.args.stimuli.now c.args.start c.args.limit (c.args.start + c.loop.last) c.loop.counter c.greatest_delay-reach.result (c.args.start + c.next_busy.new.run.took + 1) c.in_ok-next_busy.field-0
     c.requires.steady c.requires.stay most c.loop.invariant.reached (omega arith) c.if-not-branch.true ends in
-    let later : c.loop.last ≤ c.next_busy.new.run.took = omega (arith, c.in_ok-next_busy.ensures.on, c.loop.invariant.here) in
-    (
+    let later : c.loop.last ≤ c.next_busy.new.run.took = omega (arith, c.in_ok-next_busy.ensures.on, c.loop.invariant.here) in (
       settles,
       c.saturating_add.ensures
-      ∙ counted-settled circuit c.args.stimuli.now c.args.start c.loop.last c.next_busy.new.run c.requires.stay settles.settles later c.in_ok-next_busy.ensures.is,
+          ∙ counted-settled circuit c.args.stimuli.now c.args.start c.loop.last c.next_busy.new.run c.requires.stay settles.settles later c.in_ok-next_busy.ensures.is,
     )
 
 pub loop-preserved : goal.loop-preserved
@@ -48,8 +47,7 @@ pub returns : goal.returns
 returns g c =
     let circuit = circuit_of g.P.Behaviour.meaning c.args.circuit.now in
     let back : c.args.start + c.loop.last - c.args.start ≡ c.loop.last = omega arith in
-    let past = reached-oscillates_at circuit c.args.stimuli.now c.args.start c.args.limit (c.args.start + c.loop.last) c.loop.counter c.loop.invariant.reached (omega arith) in
-    (
+    let past = reached-oscillates_at circuit c.args.stimuli.now c.args.start c.args.limit (c.args.start + c.loop.last) c.loop.counter c.loop.invariant.reached (omega arith) in (
       subst (OscillatesPast circuit c.args.stimuli.now c.args.start c.args.limit) back past,
       c.loop.invariant.is.before ∙ ap (λ n. counted (evaluations circuit c.args.stimuli.now c.args.start n)) c.loop.invariant.here,
     )

@@ -1,6 +1,6 @@
-use Rattle.std.proofs.Common.{length, sym, ap, ◌∙◌}
+use Rattle.std.proofs.Common.{ap, ◌∙◌}
 use Rattle.lg_timing.specs.Plain.{circuit_of, all_outputs}
-use Rattle.lg_timing.proofs.RunLemmas.{length-all_outputs, differ-is_busy, rest-is}
+use Rattle.lg_timing.proofs.RunLemmas.{differ-is_busy, rest-is}
 use Rattle.lg_timing.proofs.settling.is_busy.Goals as goal
 
 pub returns : goal.returns

@@ -1,7 +1,6 @@
 use Rattle.std.proofs.Common.{◌+◌, sym, ap, ◌∙◌, arith}
 use Rattle.lg_timing.specs.Circuit.{Stimulus}
 use Rattle.lg_timing.specs.Configuration.{Configuration, next, going_on}
-use Rattle.lg_timing.specs.Instant.{in_force}
 use Rattle.lg_timing.specs.Plain.{circuit_of}
 use Rattle.lg_timing.proofs.ConfigurationSteps.{going_on-none, going_on-more}
 use Rattle.lg_timing.proofs.configuration.Configuration.go_on.Goals as goal

@@ -2,7 +2,7 @@ use Rattle.std.proofs.Common.{◌≡◌, ℕ, List, ap, ◌∙◌, subst}
 use Rattle.std.specs.Prelude.{IfOk}
 use Rattle.lg_value.specs.declared.bit.Bit.{Bit}
 use Rattle.lg_timing.specs.Circuit.{Word}
-use Rattle.lg_timing.specs.Configuration.{Configuration, nets_of}
+use Rattle.lg_timing.specs.Configuration.{nets_of}
 use Rattle.lg_timing.specs.Plain.{circuit_of, bit_from, all_inputs}
 use Rattle.lg_timing.proofs.SteppingLemmas.{bit_from-shown}
 use Rattle.lg_timing.proofs.configuration.Configuration.inputs.Goals as goal
