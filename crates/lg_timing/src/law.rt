@@ -1,4 +1,4 @@
-//! The law of settling.
+//! The laws of time: settling, session tables, configurations, evaluations.
 
 ghost use Rattle.std.specs.Prelude.{◌≡◌, ℕ, ◌+◌, ◌<◌, ◌≤◌, ◌++◌, true, false, List, [], ◌∷◌, length, Some, ◌⊎◌, All};
 ghost use Rattle.lg_value.specs.declared.bit.Bit.{Bit};
