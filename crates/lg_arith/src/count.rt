@@ -20,8 +20,8 @@ fn ones_in(word: &Word) -> u32
     ones
 }
 
-// The least width that a number fits.
-fn least_width(n: u32) -> u32
+/// The least width that a number fits: 0 for 0.
+pub fn least_width(n: u32) -> u32
     ensures { result ≡ least_width n }
 {
     u32::BITS - n.leading_zeros()

@@ -14,7 +14,7 @@ mod sum;
 #[cfg(test)]
 mod tests;
 
-pub use crate::count::count_ones;
+pub use crate::count::{count_ones, least_width};
 pub use crate::extender::extend;
 pub use crate::extension::Extend;
 pub use crate::law::{

@@ -13,7 +13,7 @@ use Rattle.lg_memory.proofs.RunLemmas.{run_some, run_not_white, cut_alike, IsRun
 use Rattle.lg_memory.proofs.ScanLemmas.{IsWhite, NotWhite, line_feed, stays, gap_same, after_gap-starts}
 
 -- how long the word is with which a text begins
-abbrev word_size : List ℕ → ℕ
+abbrev pub word_size : List ℕ → ℕ
 word_size text = prefix_len is_word_byte text
 
 -- what a character of a word is not

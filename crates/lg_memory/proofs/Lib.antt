@@ -10,3 +10,4 @@ pub mod ScanLemmas
 pub mod ShapeLemmas
 pub mod ShiftLemmas
 pub mod WidthLemmas
+pub mod CountLemmas

@@ -1,6 +1,6 @@
 //! Memory images.
 
-ghost use Rattle.std.specs.Prelude.{ℕ, List, ◌≡◌, ◌+◌, ◌^◌, ◌<◌, ◌≤◌, ◌++◌, ◌⊎◌, length, replicate, MatchOption, MatchResult, IfOk, IsErrOf};
+ghost use Rattle.std.specs.Prelude.{ℕ, List, ◌≡◌, ◌+◌, ◌^◌, ◌<◌, ◌≤◌, ◌++◌, ◌⊎◌, length, replicate, MatchOption, MatchResult, IfOk, IsErrOf, IsTrue, ◌↔◌};
 ghost use Rattle.lg_value.specs.Word.{IsWidth};
 ghost use Rattle.lg_memory.specs.declared.fault.ImageFault.TheVariants.{NotImage, ImageTooLong, Memory as NoMemory};
 ghost use Rattle.lg_memory.specs.Image.{IsImage, HasHeader, HasWords};
@@ -38,6 +38,35 @@ pub fn read_image(
         Some(text) => read_words(alloc, text, greatest(width), words as usize),
         None => Err(ImageFault::NotImage),
     }
+}
+
+/// Whether a text is words as they stand behind the first line of a memory image, each of `width` bits and at most `words`
+/// of them. The width is 1 to 64. No word is kept.
+pub fn are_words(text: &[u8], width: u32, words: u32) -> bool
+    requires { IsWidth width }
+    ensures { IsTrue result ↔ ((all : List ℕ) × HasWords (2 ^ width) text.now all × (length all ≤ words)) }
+{
+    count_within(text, greatest(width), words)
+}
+
+// Whether a text is words, each at most `most`, and at most `limit` of them.
+fn count_within(text: &[u8], most: u64, limit: u32) -> bool
+    ensures { IsTrue result ↔ ((all : List ℕ) × HasWords (most + 1) text.now all × (length all ≤ limit)) }
+{
+    let mut count: u64 = 0;
+    let mut rest = skip_gap(text);
+    while !rest.is_empty() {
+        let (word, after) = rest.split_at(word_len(rest));
+        let Some(run) = read_run(word, most) else {
+            return false;
+        };
+        count += u64::from(run.count);
+        if count > u64::from(limit) {
+            return false;
+        }
+        rest = skip_gap(after);
+    }
+    true
 }
 
 // The greatest number of a width.

@@ -3,7 +3,8 @@
 ghost use Rattle.std.specs.Prelude.{ℕ, ◌≡◌, ◌+◌, ◌*◌, ◌<◌, ◌≤◌, MatchOption};
 ghost use Rattle.lg_memory.specs.Image.{digit_value, Spells};
 
-// The number that a text is in a base, if it is at most `most`.
+/// The number that digits are in a base of 1 to 16, the highest digit first and hexadecimal ones in either case, if the
+/// text is digits, one at least, and the number is at most `most`.
 pub fn read_number(text: &[u8], base: u64, most: u64) -> Option<u64>
     requires { (1 ≤ base) × (base ≤ 16) }
     ensures { MatchOption result

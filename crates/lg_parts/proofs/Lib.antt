@@ -1,0 +1,8 @@
+pub mod LastLemmas
+pub mod NumberLemmas
+pub mod JudgeLemmas
+pub mod LiteralLemmas
+pub mod RowLemmas
+pub mod GrowingLemmas
+pub mod ContentsLemmas
+pub mod KindLemmas

@@ -1,2 +1,12 @@
+pub mod Attrs
+pub mod Contents
+pub mod Given
+pub mod Judged
+pub mod Kinds
+pub mod Places
+pub mod PortTable
+pub mod Ports
+pub mod Ranges
 pub mod Rows
+pub mod SplitterEnds
 pub mod Table

@@ -262,7 +262,7 @@ entry AndGate = record {
   name = codes "AND Gate";
   attributes = facing_attribute ∷ width_attribute ∷ size_attribute ∷ inputs_attribute ∷ negate_attribute ∷ out_attribute ∷ [];
   ports =
-      port In (codes "in") Inputs Width (GateInput (pos 0)) loose.Ignored
+      port In (codes "in") Inputs Width (GateInput 0) loose.Ignored
       ∷ port Out (codes "out") Once Width here loose.Unknown
       ∷ [];
   delay = delay.Instants 1;
@@ -271,7 +271,7 @@ entry OrGate = record {
   name = codes "OR Gate";
   attributes = facing_attribute ∷ width_attribute ∷ size_attribute ∷ inputs_attribute ∷ negate_attribute ∷ out_attribute ∷ [];
   ports =
-      port In (codes "in") Inputs Width (GateInput (pos 0)) loose.Ignored
+      port In (codes "in") Inputs Width (GateInput 0) loose.Ignored
       ∷ port Out (codes "out") Once Width here loose.Unknown
       ∷ [];
   delay = delay.Instants 1;
@@ -280,7 +280,7 @@ entry NandGate = record {
   name = codes "NAND Gate";
   attributes = facing_attribute ∷ width_attribute ∷ size_attribute ∷ inputs_attribute ∷ negate_attribute ∷ out_attribute ∷ [];
   ports =
-      port In (codes "in") Inputs Width (GateInput (right 10)) loose.Ignored
+      port In (codes "in") Inputs Width (GateInput 10) loose.Ignored
       ∷ port Out (codes "out") Once Width here loose.Unknown
       ∷ [];
   delay = delay.Instants 1;
@@ -289,7 +289,7 @@ entry NorGate = record {
   name = codes "NOR Gate";
   attributes = facing_attribute ∷ width_attribute ∷ size_attribute ∷ inputs_attribute ∷ negate_attribute ∷ out_attribute ∷ [];
   ports =
-      port In (codes "in") Inputs Width (GateInput (right 10)) loose.Ignored
+      port In (codes "in") Inputs Width (GateInput 10) loose.Ignored
       ∷ port Out (codes "out") Once Width here loose.Unknown
       ∷ [];
   delay = delay.Instants 1;
@@ -298,7 +298,7 @@ entry XorGate = record {
   name = codes "XOR Gate";
   attributes = facing_attribute ∷ width_attribute ∷ size_attribute ∷ inputs_attribute ∷ negate_attribute ∷ out_attribute ∷ xor_attribute ∷ [];
   ports =
-      port In (codes "in") Inputs Width (GateInput (right 10)) loose.Ignored
+      port In (codes "in") Inputs Width (GateInput 10) loose.Ignored
       ∷ port Out (codes "out") Once Width here loose.Unknown
       ∷ [];
   delay = delay.Instants 1;
@@ -307,7 +307,7 @@ entry XnorGate = record {
   name = codes "XNOR Gate";
   attributes = facing_attribute ∷ width_attribute ∷ size_attribute ∷ inputs_attribute ∷ negate_attribute ∷ out_attribute ∷ xor_attribute ∷ [];
   ports =
-      port In (codes "in") Inputs Width (GateInput (right 20)) loose.Ignored
+      port In (codes "in") Inputs Width (GateInput 20) loose.Ignored
       ∷ port Out (codes "out") Once Width here loose.Unknown
       ∷ [];
   delay = delay.Instants 1;
@@ -316,7 +316,7 @@ entry OddParity = record {
   name = codes "Odd Parity";
   attributes = facing_attribute ∷ width_attribute ∷ size_attribute ∷ inputs_attribute ∷ negate_attribute ∷ out_attribute ∷ [];
   ports =
-      port In (codes "in") Inputs Width (GateInput (pos 0)) loose.Ignored
+      port In (codes "in") Inputs Width (GateInput 0) loose.Ignored
       ∷ port Out (codes "out") Once Width here loose.Unknown
       ∷ [];
   delay = delay.Instants 1;
@@ -325,7 +325,7 @@ entry EvenParity = record {
   name = codes "Even Parity";
   attributes = facing_attribute ∷ width_attribute ∷ size_attribute ∷ inputs_attribute ∷ negate_attribute ∷ out_attribute ∷ [];
   ports =
-      port In (codes "in") Inputs Width (GateInput (right 10)) loose.Ignored
+      port In (codes "in") Inputs Width (GateInput 10) loose.Ignored
       ∷ port Out (codes "out") Once Width here loose.Unknown
       ∷ [];
   delay = delay.Instants 1;
@@ -487,7 +487,7 @@ entry BitAdder = record {
   name = codes "BitAdder";
   attributes = facing_attribute ∷ width_8_attribute ∷ counted_attribute ∷ [];
   ports =
-      port In (codes "in") Inputs Width (Row (left 40) (pos 0) (down 10)) loose.Unknown
+      port In (codes "in") Inputs Width (Row (left 40) (pos 0) 10) loose.Unknown
       ∷ port Out (codes "out") Once Total here loose.Unknown
       ∷ [];
   delay = delay.Sum;
@@ -582,8 +582,8 @@ entry ShiftRegister = record {
       ∷ port In (codes "clk") Once size.One (At (pos 0) (down 50)) loose.Unknown
       ∷ port In (codes "clr") Once size.One (At (pos 0) (down 20)) loose.Zero
       ∷ port In (codes "ld") Parallel size.One (At (pos 0) (down 60)) loose.Zero
-      ∷ port In (codes "d") Stages Width (Row (pos 0) (down 80) (down 20)) loose.Zero
-      ∷ port Out (codes "q") Stages Width (Row (right 100) (down 80) (down 20)) loose.Unknown
+      ∷ port In (codes "d") Stages Width (Row (pos 0) (down 80) 20) loose.Zero
+      ∷ port Out (codes "q") Stages Width (Row (right 100) (down 80) 20) loose.Unknown
       ∷ port Out (codes "q") Serial Width (At (right 100) (down 80)) loose.Unknown
       ∷ [];
   delay = delay.Instants 8;

@@ -74,11 +74,11 @@ pub enum Place {
     // At a point.
     At(i16, i16),
     // The first at a point, each next one so much lower.
-    Row(i16, i16, i16),
+    Row(i16, i16, u16),
     // As far to the left as the part is large.
     Behind,
     // At the back of a gate, whose body is so much longer than its size.
-    GateInput(i16),
+    GateInput(u16),
     // Above the part or below it, as `control` says.
     Control,
     // The inputs of a multiplexer.

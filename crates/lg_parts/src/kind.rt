@@ -1,9 +1,18 @@
-//! The kinds of parts and their names.
+//! The kinds of components and their names.
 
-ghost use Rattle.std.specs.Prelude.{◌≡◌};
+ghost use Rattle.std.specs.Prelude.{List, ℕ, ◌≡◌, find, unwrap_or, IfOk, IfErr, option_map};
+ghost use Rattle.std.specs.List.{list_any};
+ghost use Rattle.std.specs.Str.{bytes_eq};
+ghost use denote.Bor.{Bor};
+ghost use Rattle.lg_parts.specs.Kinds.{is_accepted, library_of, IsKind, RefusesKind};
+ghost use Rattle.lg_parts.specs.PortTable.{is_same};
 ghost use Rattle.lg_parts.specs.Table.{name_of};
 
+use crate::fault::PartFault;
+use crate::range::is_among;
 use crate::table::entry;
+use lg_text::Text;
+use std::alloc::Global;
 
 /// A kind of component, named as in the drawing tool without spaces and hyphens.
 #[derive(Clone, Copy, Debug, PartialEq, Eq)]
@@ -58,9 +67,119 @@ pub enum Kind {
     SegmentDisplay,
 }
 
+// Every kind.
+const KINDS: [Kind; 48] = [
+    Kind::Pin,
+    Kind::Tunnel,
+    Kind::Splitter,
+    Kind::Clock,
+    Kind::Constant,
+    Kind::Power,
+    Kind::Ground,
+    Kind::PullResistor,
+    Kind::BitExtender,
+    Kind::NotGate,
+    Kind::Buffer,
+    Kind::AndGate,
+    Kind::OrGate,
+    Kind::NandGate,
+    Kind::NorGate,
+    Kind::XorGate,
+    Kind::XnorGate,
+    Kind::OddParity,
+    Kind::EvenParity,
+    Kind::ControlledBuffer,
+    Kind::ControlledInverter,
+    Kind::Multiplexer,
+    Kind::Demultiplexer,
+    Kind::Decoder,
+    Kind::PriorityEncoder,
+    Kind::BitSelector,
+    Kind::Adder,
+    Kind::Subtractor,
+    Kind::Multiplier,
+    Kind::Divider,
+    Kind::Negator,
+    Kind::Comparator,
+    Kind::Shifter,
+    Kind::BitAdder,
+    Kind::DFlipFlop,
+    Kind::TFlipFlop,
+    Kind::JkFlipFlop,
+    Kind::SrFlipFlop,
+    Kind::Register,
+    Kind::Counter,
+    Kind::ShiftRegister,
+    Kind::Rom,
+    Kind::Ram,
+    Kind::Probe,
+    Kind::Led,
+    Kind::Text,
+    Kind::HexDisplay,
+    Kind::SegmentDisplay,
+];
+
+/// The kind that has a name in a library with this description; `None` stands for a library without one.
+///
+/// A kind is found by its name in each of the accepted libraries. `OutsideLibrary` names the description where it is not
+/// accepted, and is empty where there is none; else `UnknownKind` names what no kind is called.
+pub fn kind_of(alloc: Global, desc: Option<&str>, name: &str) -> Result<Kind, PartFault>
+    ensures found { IfOk result (λ kind. IsKind (library_of desc.entry) name.now kind) }
+    ensures refused { IfErr result (λ fault. RefusesKind (library_of desc.entry) name.now fault) }
+{
+    let library = desc.unwrap_or("");
+    if !is_accepted(library) {
+        let lib = Text::copy_of(alloc, library)?;
+        return Err(PartFault::OutsideLibrary { lib });
+    }
+    match kind_named(&KINDS, name) {
+        Some(kind) => Ok(kind),
+        None => {
+            let name = Text::copy_of(alloc, name)?;
+            Err(PartFault::UnknownKind { name })
+        }
+    }
+}
+
+fn is_accepted(library: &str) -> bool
+    ensures { result ≡ is_accepted library.now }
+{
+    is_among(
+        library,
+        &[
+            "#Wiring",
+            "#Gates",
+            "#Plexers",
+            "#Arithmetic",
+            "#Memory",
+            "#I/O",
+            "#Base",
+        ],
+    )
+}
+
+// The first of some kinds that has this name.
+fn kind_named(kinds: &[Kind], name: &str) -> Option<Kind>
+    ensures { result ≡ find (λ kind. bytes_eq (name_of kind) name.now) kinds.now }
+{
+    for kind in kinds {
+        if kind_name(*kind) == name {
+            return Some(*kind);
+        }
+    }
+    None
+}
+
 /// The kind's name in the drawing tool.
 pub fn kind_name(kind: Kind) -> &'static str
     ensures { result.now ≡ name_of kind }
 {
     entry(kind).name
+}
+
+// Whether two kinds are the same.
+pub fn is_same(one: Kind, other: Kind) -> bool
+    ensures { result ≡ is_same one other }
+{
+    kind_name(one) == kind_name(other)
 }

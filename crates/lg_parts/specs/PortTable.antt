@@ -1,0 +1,35 @@
+-- What the records of a port table replace: a later one replaces an earlier one.
+use Rattle.std.specs.Prelude.{ℕ, ℤ, Bool, ◌&&◌, List, [], ◌∷◌, Option, Some, None, if◌then◌else◌}
+use Rattle.std.specs.Option.{option_or}
+use Rattle.std.specs.Str.{bytes_eq}
+use Rattle.lg_parts.specs.declared.kind.Kind.{Kind}
+use Rattle.lg_parts.specs.declared.port_table.Record.{Record}
+use Rattle.lg_parts.specs.declared.port_table.Record.TheVariants.{Port, Delay, Default, Circuit}
+use Rattle.lg_parts.specs.Table.{name_of}
+
+-- what the last element gives that gives something
+abbrev pub last_given : {A B : Type 0} → (A → Option B) → List A → Option B
+last_given f [] = None
+last_given f (x ∷ xs) = option_or (last_given f xs) (f x)
+
+-- two kinds have one name, as no two kinds have
+abbrev pub is_same : Kind → Kind → Bool
+is_same a b = bytes_eq (name_of a) (name_of b)
+
+-- the value that a record gives an attribute of a kind where it is left out
+abbrev pub default_in : Kind → List ℕ → Record → Option (List ℕ)
+default_in kind name (Default of attribute value) = if is_same of kind && bytes_eq attribute name then Some value else None
+default_in kind name _ = None
+
+-- the place that a record gives a port of a kind
+abbrev pub place_in : Kind → List ℕ → Record → Option (ℤ × ℤ)
+place_in kind name (Port of port dx dy) = if is_same of kind && bytes_eq port name then Some (dx, dy) else None
+place_in kind name _ = None
+
+-- the value of the last record that gives the attribute of the kind a default
+abbrev pub default_of : List Record → Kind → List ℕ → Option (List ℕ)
+default_of records kind name = last_given (default_in kind name) records
+
+-- the place of the last record that moves the port of the kind
+abbrev pub place_of : List Record → Kind → List ℕ → Option (ℤ × ℤ)
+place_of records kind name = last_given (place_in kind name) records

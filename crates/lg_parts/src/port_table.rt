@@ -1,0 +1,110 @@
+//! What stands in place of the table of kinds: places of ports, delays, and values of attributes that are left out.
+
+ghost use Rattle.std.specs.Prelude.{ℕ, List, ◌≡◌, [], option_map};
+ghost use denote.Bor.{Bor};
+ghost use Rattle.lg_parts.specs.PortTable.{default_in, place_in, default_of, place_of};
+
+use crate::kind::{Kind, is_same};
+use lg_text::Text;
+use sqlite_items::Items;
+use std::alloc::Global;
+
+// One record of a port table.
+#[derive(Debug, Drop)]
+pub enum Record {
+    // A port of a kind stands elsewhere.
+    Port {
+        kind: Kind,
+        port: Text,
+        dx: i16,
+        dy: i16,
+    },
+    // A kind takes another number of instants.
+    Delay {
+        kind: Kind,
+        instants: u8,
+    },
+    // An attribute of a kind has another value where it is left out.
+    Default {
+        kind: Kind,
+        attribute: Text,
+        value: Text,
+    },
+    // A pin of a sheet stands elsewhere at the sheet's uses.
+    Circuit {
+        sheet: Text,
+        pin: Text,
+        dx: i16,
+        dy: i16,
+    },
+}
+
+impl Record {
+    // The value that the record gives an attribute of a kind where it is left out.
+    fn default_of(&self, kind: Kind, name: &str) -> Option<&str>
+        ensures { option_map (λ (t : Bor (List ℕ)). t.now) result ≡ default_in kind name.now self.now }
+    {
+        match self {
+            Record::Default {
+                kind: of,
+                attribute,
+                value,
+            } if is_same(*of, kind) && attribute.as_str() == name => Some(value.as_str()),
+            _ => None,
+        }
+    }
+
+    // The place that the record gives a port of a kind.
+    fn place_of(&self, kind: Kind, name: &str) -> Option<(i16, i16)>
+        ensures { result ≡ place_in kind name.now self.now }
+    {
+        match self {
+            Record::Port {
+                kind: of,
+                port,
+                dx,
+                dy,
+            } if is_same(*of, kind) && port.as_str() == name => Some((*dx, *dy)),
+            _ => None,
+        }
+    }
+}
+
+/// Records that replace what the table of kinds says; a later record replaces an earlier one.
+#[derive(Debug, Drop)]
+pub struct PortTable {
+    records: Items<Record>,
+}
+
+impl PortTable {
+    /// The table without records: what is printed in the table of kinds holds.
+    pub fn printed(alloc: Global) -> PortTable
+        ensures { result.records ≡ [] }
+    {
+        PortTable {
+            records: Items::new(alloc),
+        }
+    }
+
+    /// The value of the last record that gives this attribute of the kind a default, where there is one.
+    pub fn default_of(&self, kind: Kind, attr: &str) -> Option<&str>
+        ensures { option_map (λ (t : Bor (List ℕ)). t.now) result ≡ default_of self.now.records kind attr.now }
+    {
+        let mut last = None;
+        for record in self.records.as_slice() {
+            last = record.default_of(kind, attr).or(last);
+        }
+        last
+    }
+
+    // The place of the last record that moves the port of the kind, where there is one.
+    pub fn place_of(&self, kind: Kind, port: &str) -> Option<(i16, i16)>
+        ensures { result ≡ place_of self.now.records kind port.now }
+    {
+        let mut last = None;
+        for record in self.records.as_slice() {
+            last = record.place_of(kind, port).or(last);
+        }
+        last
+    }
+}
