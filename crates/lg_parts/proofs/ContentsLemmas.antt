@@ -1,10 +1,9 @@
 -- Texts that are read piece by piece.
-use Rattle.std.proofs.Common.{◌≡◌, ◌∙◌, sym, ap, subst, ℕ, ◌*◌, ◌%◌, ◌^◌, ◌≤◌, ◌↔◌, Bool, List, length, ◌∷◌, ◌++◌, drop, Option, Some, None, ◌⊎◌, inl, inr, arith}
+use Rattle.std.proofs.Common.{◌≡◌, ◌∙◌, sym, subst, ℕ, ◌*◌, ◌%◌, ◌^◌, ◌≤◌, ◌↔◌, Bool, List, length, ◌∷◌, ◌++◌, Option, Some, None, inl, inr, arith}
 use Rattle.std.specs.Prelude.{codes, MatchOption, IsTrue}
 use Rattle.std.proofs.Math.Pow.{pow_mono}
 use Rattle.lg_memory.specs.Form.{IsStoreSize}
 use Rattle.lg_memory.specs.Image.{HasWords}
-use Rattle.std.specs.List.{prefix_len}
 use Rattle.std.proofs.lemmas.List.{append_cancel_left}
 use denote.Bor.{Bor}
 use Rattle.lg_parts.specs.Contents.{Then, Marked, Numbered, EndsLine, HasWidths, HasContents}

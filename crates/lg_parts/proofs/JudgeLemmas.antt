@@ -1,5 +1,5 @@
 -- What is judged of rows one after another.
-use Rattle.std.proofs.Common.{◌≡◌, ◌∙◌, sym, ap, subst, ℕ, ◌+◌, ◌<◌, ◌≤◌, List, ◌∷◌, ◌++◌, length, get_or, take, drop, map, refl, inl, inr, ◌⊎◌, Option, Some, None, arith, add-one}
+use Rattle.std.proofs.Common.{◌≡◌, ◌∙◌, sym, ap, subst, ℕ, ◌+◌, ◌<◌, ◌≤◌, List, ◌∷◌, ◌++◌, length, get_or, take, drop, map, inl, inr, Option, Some, None, add-one}
 use Rattle.std.proofs.Math.Seq.{drop-cons}
 use Rattle.std.specs.Prelude.{option_map}
 use denote.Bor.{Bor}
@@ -7,9 +7,8 @@ use Rattle.std.specs.List.{All}
 use Rattle.std.proofs.lemmas.List.{take_all, get_or-map, length-map, take-append-drop}
 use Rattle.std.proofs.lemmas.List.Elements.{All-more}
 use Rattle.lg_parts.specs.declared.fault.PartFault.{PartFault}
-use Rattle.lg_parts.specs.declared.fault.PartFault.TheVariants.{BadAttr, Memory}
 use Rattle.lg_parts.specs.Given.{Given, count_of, value_of, name_at}
-use Rattle.lg_parts.specs.Judged.{EntryFits, RowFits, AllFit, RefusesAt, RefusesIn, Refuses}
+use Rattle.lg_parts.specs.Judged.{EntryFits, RowFits, RefusesAt, RefusesIn, Refuses}
 use Rattle.lg_parts.specs.Ranges.{InRange}
 use Rattle.lg_parts.specs.Rows.{Attribute}
 use Rattle.lg_parts.specs.Table.{entry}

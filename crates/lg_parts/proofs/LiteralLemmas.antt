@@ -1,7 +1,6 @@
 -- Numbers in decimal digits, and in hexadecimal ones behind `0x`.
-use Rattle.std.proofs.Common.{◌≡◌, sym, ◌∙◌, subst, ℕ, ◌^◌, ◌<◌, List, ◌++◌, length, inl, inr, ◌⊎◌, arith, ◌↔◌}
+use Rattle.std.proofs.Common.{◌≡◌, sym, ◌∙◌, subst, ℕ, ◌^◌, ◌<◌, List, ◌++◌, inl, inr, arith, ◌↔◌}
 use Rattle.std.specs.Prelude.{codes, Bool, IsTrue}
-use Rattle.std.specs.List.{All}
 use Rattle.std.proofs.lemmas.List.{append_cancel_left}
 use Rattle.lg_memory.specs.Image.{digit_value, Spells}
 use Rattle.lg_parts.specs.Ranges.{Says, IsLiteral}

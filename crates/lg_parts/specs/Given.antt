@@ -1,5 +1,5 @@
 -- The values that the attributes of a component have, and how often the rows of the table stand for it.
-use Rattle.std.specs.Prelude.{ℕ, ◌^◌, min, Bool, true, false, not, ◌&&◌, List, [], ◌++◌, length, Option, Some, None, find, nat_le, nat_lt, if◌then◌else◌, codes}
+use Rattle.std.specs.Prelude.{ℕ, ◌^◌, min, Bool, true, false, not, ◌&&◌, List, ◌++◌, length, Option, Some, None, find, nat_le, nat_lt, if◌then◌else◌, codes}
 use Rattle.std.specs.Fmt.{decimal}
 use Rattle.std.specs.List.{list_all}
 use Rattle.std.specs.Option.{option_or, option_and_then, option_map_or}
@@ -21,6 +21,7 @@ pub record Given : Type 0 where
   pub attrs : List (List ℕ × List ℕ)
   pub records : List Record
 
+-- a component of a kind with attributes, and the records
 abbrev pub component : Kind → List (List ℕ × List ℕ) → List Record → Given
 component kind attrs records = record { kind = kind; attrs = attrs; records = records }
 

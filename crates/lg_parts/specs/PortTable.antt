@@ -4,7 +4,7 @@ use Rattle.std.specs.Option.{option_or}
 use Rattle.std.specs.Str.{bytes_eq}
 use Rattle.lg_parts.specs.declared.kind.Kind.{Kind}
 use Rattle.lg_parts.specs.declared.port_table.Record.{Record}
-use Rattle.lg_parts.specs.declared.port_table.Record.TheVariants.{Port, Delay, Default, Circuit}
+use Rattle.lg_parts.specs.declared.port_table.Record.TheVariants.{Port, Default, Circuit}
 use Rattle.lg_parts.specs.Table.{name_of}
 
 -- what the last element gives that gives something
@@ -33,3 +33,12 @@ default_of records kind name = last_given (default_in kind name) records
 -- the place of the last record that moves the port of the kind
 abbrev pub place_of : List Record → Kind → List ℕ → Option (ℤ × ℤ)
 place_of records kind name = last_given (place_in kind name) records
+
+-- the place that a record gives a pin at the uses of a sheet
+abbrev pub circuit_in : List ℕ → List ℕ → Record → Option (ℤ × ℤ)
+circuit_in sheet pin (Circuit of name dx dy) = if bytes_eq of sheet && bytes_eq name pin then Some (dx, dy) else None
+circuit_in sheet pin _ = None
+
+-- the place that the last record for the pin gives it at the uses of the sheet
+abbrev pub sheet_row : List Record → List ℕ → List ℕ → Option (ℤ × ℤ)
+sheet_row records sheet pin = last_given (circuit_in sheet pin) records

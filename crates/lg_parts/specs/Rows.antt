@@ -47,13 +47,15 @@ pub record KindEntry : Type 0 where
   pub ports : List PortForm
   pub delay : Delay
 
+-- a row for an attribute
 abbrev pub attribute : List ℕ → Count → Range → Option (List ℕ) → Attribute
 attribute name count range usual = record { name = name; count = count; range = range; usual = usual }
 
+-- a row for a port
 abbrev pub port : Side → List ℕ → Count → Size → Place → Loose → PortForm
 port side name count size place loose = record { side = side; name = name; count = count; size = size; place = place; loose = loose }
 
--- the code's rows as those of the definition
+-- a range of the code's table as one of the definition's
 abbrev pub seen_range : RangeRow → Range
 seen_range row.Any = Any
 seen_range (row.OneOf words) = OneOf (map (λ (w : Bor (List ℕ)). w.now) words.now)
@@ -63,11 +65,14 @@ seen_range row.End = End
 seen_range row.Literal = Literal
 seen_range row.Contents = Contents
 
+-- a row for an attribute, likewise
 abbrev pub seen_attribute : AttributeRow → Attribute
 seen_attribute r = attribute r.0.now r.1 (seen_range r.2) (option_map (λ (t : Bor (List ℕ)). t.now) r.3)
 
+-- a row for a port, likewise
 abbrev pub seen_port : PortRow → PortForm
 seen_port r = port r.0 r.1.now r.2 r.3 r.4 r.5
 
+-- an entry, likewise
 abbrev pub seen_entry : Entry → KindEntry
 seen_entry e = record { name = e.name.now; attributes = map seen_attribute e.attributes.now; ports = map seen_port e.ports.now; delay = e.delay }

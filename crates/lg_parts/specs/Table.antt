@@ -14,16 +14,19 @@ use Rattle.lg_parts.specs.declared.entry.Place.TheVariants.{At, Row, Behind, Gat
 use Rattle.lg_parts.specs.declared.entry.Delay.TheVariants as delay
 use Rattle.lg_parts.specs.Rows.{Attribute, attribute, port, KindEntry, Range, Any, OneOf, Number, Group, End, Literal, Contents}
 
--- places are told from the component: x grows to the right, y grows downwards
+-- so far to the left of the component; x grows to the right
 abbrev pub left : ℕ → ℤ
 left n = neg_ℤ (pos n)
 
+-- so far to the right of it
 abbrev pub right : ℕ → ℤ
 right n = pos n
 
+-- so far above it; y grows downwards
 abbrev pub up : ℕ → ℤ
 up n = neg_ℤ (pos n)
 
+-- so far below it
 abbrev pub down : ℕ → ℤ
 down n = pos n
 
@@ -35,132 +38,175 @@ here = At (pos 0) (pos 0)
 abbrev pub flag : Range
 flag = OneOf (codes "true" ∷ codes "false" ∷ [])
 
+-- `facing`: `east`, `west`, `north` or `south`; `east` where it is left out
 abbrev pub facing_attribute : Attribute
 facing_attribute = attribute (codes "facing") Once (OneOf (codes "east" ∷ codes "west" ∷ codes "north" ∷ codes "south" ∷ [])) (Some (codes "east"))
 
+-- `width`: 1 to 64; `1` where it is left out
 abbrev pub width_attribute : Attribute
 width_attribute = attribute (codes "width") Once (Number 1 64) (Some (codes "1"))
 
+-- `width`: 1 to 64; `8` where it is left out
 abbrev pub width_8_attribute : Attribute
 width_8_attribute = attribute (codes "width") Once (Number 1 64) (Some (codes "8"))
 
+-- `label`: any text; empty where it is left out
 abbrev pub label_attribute : Attribute
 label_attribute = attribute (codes "label") Once Any (Some [])
 
+-- `size`: `20` or `30`; `30` where it is left out
 abbrev pub not_size_attribute : Attribute
 not_size_attribute = attribute (codes "size") Once (OneOf (codes "20" ∷ codes "30" ∷ [])) (Some (codes "30"))
 
+-- `size`: `30`, `50` or `70`; `50` where it is left out
 abbrev pub size_attribute : Attribute
 size_attribute = attribute (codes "size") Once (OneOf (codes "30" ∷ codes "50" ∷ codes "70" ∷ [])) (Some (codes "50"))
 
+-- `inputs`: 2 to 64; `2` where it is left out
 abbrev pub inputs_attribute : Attribute
 inputs_attribute = attribute (codes "inputs") Once (Number 2 64) (Some (codes "2"))
 
+-- `negateK` for each input: true or false; `false` where it is left out
 abbrev pub negate_attribute : Attribute
 negate_attribute = attribute (codes "negate") Inputs flag (Some (codes "false"))
 
+-- `out`: `01`, `0Z` or `Z1`; `01` where it is left out
 abbrev pub out_attribute : Attribute
 out_attribute = attribute (codes "out") Once (OneOf (codes "01" ∷ codes "0Z" ∷ codes "Z1" ∷ [])) (Some (codes "01"))
 
+-- `xor`: `1` or `odd`; `1` where it is left out
 abbrev pub xor_attribute : Attribute
 xor_attribute = attribute (codes "xor") Once (OneOf (codes "1" ∷ codes "odd" ∷ [])) (Some (codes "1"))
 
+-- `control`: `right` or `left`; `right` where it is left out
 abbrev pub control_attribute : Attribute
 control_attribute = attribute (codes "control") Once (OneOf (codes "right" ∷ codes "left" ∷ [])) (Some (codes "right"))
 
+-- `select`: 1 to 5; `1` where it is left out
 abbrev pub select_attribute : Attribute
 select_attribute = attribute (codes "select") Once (Number 1 5) (Some (codes "1"))
 
+-- `select`: 1 to 5; `3` where it is left out
 abbrev pub select_3_attribute : Attribute
 select_3_attribute = attribute (codes "select") Once (Number 1 5) (Some (codes "3"))
 
+-- `enable`: true or false; `false` where it is left out
 abbrev pub enable_attribute : Attribute
 enable_attribute = attribute (codes "enable") Once flag (Some (codes "false"))
 
+-- `disabled`: `Z` or `0`; `Z` where it is left out
 abbrev pub disabled_attribute : Attribute
 disabled_attribute = attribute (codes "disabled") Once (OneOf (codes "Z" ∷ codes "0" ∷ [])) (Some (codes "Z"))
 
+-- `selloc`: `bl` or `tr`; `bl` where it is left out
 abbrev pub selloc_attribute : Attribute
 selloc_attribute = attribute (codes "selloc") Once (OneOf (codes "bl" ∷ codes "tr" ∷ [])) (Some (codes "bl"))
 
+-- `tristate`: true or false; `false` where it is left out
 abbrev pub tristate_attribute : Attribute
 tristate_attribute = attribute (codes "tristate") Once flag (Some (codes "false"))
 
+-- `group`: 1 to the width; `1` where it is left out
 abbrev pub group_attribute : Attribute
 group_attribute = attribute (codes "group") Once Group (Some (codes "1"))
 
+-- `mode`: `unsigned` alone; `unsigned` where it is left out
 abbrev pub unsigned_attribute : Attribute
 unsigned_attribute = attribute (codes "mode") Once (OneOf (codes "unsigned" ∷ [])) (Some (codes "unsigned"))
 
+-- `mode`: `unsigned` or `twosComplement`; `twosComplement` where it is left out
 abbrev pub mode_attribute : Attribute
 mode_attribute = attribute (codes "mode") Once (OneOf (codes "unsigned" ∷ codes "twosComplement" ∷ [])) (Some (codes "twosComplement"))
 
+-- `shift`: `ll`, `lr`, `ar`, `rl` or `rr`; `ll` where it is left out
 abbrev pub shift_attribute : Attribute
 shift_attribute = attribute (codes "shift") Once (OneOf (codes "ll" ∷ codes "lr" ∷ codes "ar" ∷ codes "rl" ∷ codes "rr" ∷ [])) (Some (codes "ll"))
 
+-- `inputs`: 1 to 64; `1` where it is left out
 abbrev pub counted_attribute : Attribute
 counted_attribute = attribute (codes "inputs") Once (Number 1 64) (Some (codes "1"))
 
+-- `trigger`: `rising` or `falling`; `rising` where it is left out
 abbrev pub edge_attribute : Attribute
 edge_attribute = attribute (codes "trigger") Once (OneOf (codes "rising" ∷ codes "falling" ∷ [])) (Some (codes "rising"))
 
+-- `trigger`: `rising`, `falling`, `high` or `low`; `rising` where it is left out
 abbrev pub trigger_attribute : Attribute
 trigger_attribute = attribute (codes "trigger") Once (OneOf (codes "rising" ∷ codes "falling" ∷ codes "high" ∷ codes "low" ∷ [])) (Some (codes "rising"))
 
+-- `max`: a number of 64 bits; nothing where it is left out
 abbrev pub max_attribute : Attribute
 max_attribute = attribute (codes "max") Once Literal None
 
+-- `ongoal`: `wrap`, `stay`, `continue` or `load`; `wrap` where it is left out
 abbrev pub ongoal_attribute : Attribute
 ongoal_attribute = attribute (codes "ongoal") Once (OneOf (codes "wrap" ∷ codes "stay" ∷ codes "continue" ∷ codes "load" ∷ [])) (Some (codes "wrap"))
 
+-- `length`: 1 to 64; `8` where it is left out
 abbrev pub length_attribute : Attribute
 length_attribute = attribute (codes "length") Once (Number 1 64) (Some (codes "8"))
 
+-- `parallel`: true or false; `true` where it is left out
 abbrev pub parallel_attribute : Attribute
 parallel_attribute = attribute (codes "parallel") Once flag (Some (codes "true"))
 
+-- `addrWidth`: 1 to 24; `8` where it is left out
 abbrev pub addr_width_attribute : Attribute
 addr_width_attribute = attribute (codes "addrWidth") Once (Number 1 24) (Some (codes "8"))
 
+-- `dataWidth`: 1 to 64; `8` where it is left out
 abbrev pub data_width_attribute : Attribute
 data_width_attribute = attribute (codes "dataWidth") Once (Number 1 64) (Some (codes "8"))
 
+-- `contents`: the contents of a ROM; empty where it is left out
 abbrev pub contents_attribute : Attribute
 contents_attribute = attribute (codes "contents") Once Contents (Some [])
 
+-- `output`: true or false; `false` where it is left out
 abbrev pub output_attribute : Attribute
 output_attribute = attribute (codes "output") Once flag (Some (codes "false"))
 
+-- `type`: any text; empty where it is left out
 abbrev pub pin_type_attribute : Attribute
 pin_type_attribute = attribute (codes "type") Once Any (Some [])
 
+-- `incoming`: 1 to 64; `2` where it is left out
 abbrev pub incoming_attribute : Attribute
 incoming_attribute = attribute (codes "incoming") Once (Number 1 64) (Some (codes "2"))
 
+-- `fanout`: 1 to 64; `2` where it is left out
 abbrev pub fanout_attribute : Attribute
 fanout_attribute = attribute (codes "fanout") Once (Number 1 64) (Some (codes "2"))
 
+-- `appear`: `left`, `right`, `center` or `legacy`; `left` where it is left out
 abbrev pub appear_attribute : Attribute
 appear_attribute = attribute (codes "appear") Once (OneOf (codes "left" ∷ codes "right" ∷ codes "center" ∷ codes "legacy" ∷ [])) (Some (codes "left"))
 
+-- `spacing`: 1 to 9; `1` where it is left out
 abbrev pub spacing_attribute : Attribute
 spacing_attribute = attribute (codes "spacing") Once (Number 1 9) (Some (codes "1"))
 
+-- `bitK` for each bit: the number of an end, or `none`; nothing where it is left out
 abbrev pub bit_attribute : Attribute
 bit_attribute = attribute (codes "bit") Incoming End None
 
+-- `value`: a number of 64 bits; `0x1` where it is left out
 abbrev pub value_attribute : Attribute
 value_attribute = attribute (codes "value") Once Literal (Some (codes "0x1"))
 
+-- `pull`: `0`, `1` or `X`; `0` where it is left out
 abbrev pub pull_attribute : Attribute
 pull_attribute = attribute (codes "pull") Once (OneOf (codes "0" ∷ codes "1" ∷ codes "X" ∷ [])) (Some (codes "0"))
 
+-- `in_width`: 1 to 64; `8` where it is left out
 abbrev pub in_width_attribute : Attribute
 in_width_attribute = attribute (codes "in_width") Once (Number 1 64) (Some (codes "8"))
 
+-- `out_width`: 1 to 64; `16` where it is left out
 abbrev pub out_width_attribute : Attribute
 out_width_attribute = attribute (codes "out_width") Once (Number 1 64) (Some (codes "16"))
 
+-- `type`: `zero`, `one`, `sign` or `input`; `zero` where it is left out
 abbrev pub type_attribute : Attribute
 type_attribute = attribute (codes "type") Once (OneOf (codes "zero" ∷ codes "one" ∷ codes "sign" ∷ codes "input" ∷ [])) (Some (codes "zero"))
 

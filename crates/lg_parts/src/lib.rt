@@ -33,3 +33,6 @@ pub use kind::{Kind, kind_name, kind_of};
 pub use listing::ports;
 pub use port::{Loose, Port, Side};
 pub use port_table::PortTable;
+
+#[cfg(test)]
+mod tests;

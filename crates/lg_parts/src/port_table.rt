@@ -2,7 +2,7 @@
 
 ghost use Rattle.std.specs.Prelude.{ℕ, List, ◌≡◌, [], option_map};
 ghost use denote.Bor.{Bor};
-ghost use Rattle.lg_parts.specs.PortTable.{default_in, place_in, default_of, place_of};
+ghost use Rattle.lg_parts.specs.PortTable.{default_in, place_in, circuit_in, default_of, place_of, sheet_row};
 
 use crate::kind::{Kind, is_same};
 use lg_text::Text;
@@ -54,6 +54,21 @@ impl Record {
         }
     }
 
+    // The place that the record gives a pin at the uses of a sheet.
+    fn sheet_row(&self, sheet: &str, pin: &str) -> Option<(i16, i16)>
+        ensures { result ≡ circuit_in sheet.now pin.now self.now }
+    {
+        match self {
+            Record::Circuit {
+                sheet: of,
+                pin: name,
+                dx,
+                dy,
+            } if of.as_str() == sheet && name.as_str() == pin => Some((*dx, *dy)),
+            _ => None,
+        }
+    }
+
     // The place that the record gives a port of a kind.
     fn place_of(&self, kind: Kind, name: &str) -> Option<(i16, i16)>
         ensures { result ≡ place_in kind name.now self.now }
@@ -93,6 +108,26 @@ impl PortTable {
         let mut last = None;
         for record in self.records.as_slice() {
             last = record.default_of(kind, attr).or(last);
+        }
+        last
+    }
+
+    /// The offset that the last record for this pin of the sheet gives it at the sheet's uses, where there is one.
+    pub fn sheet_row(&self, sheet: &str, pin: &str) -> Option<(i32, i32)>
+        ensures { result ≡ sheet_row self.now.records sheet.now pin.now }
+    {
+        match self.last_sheet_row(sheet, pin) {
+            Some((dx, dy)) => Some((i32::from(dx), i32::from(dy))),
+            None => None,
+        }
+    }
+
+    fn last_sheet_row(&self, sheet: &str, pin: &str) -> Option<(i16, i16)>
+        ensures { result ≡ sheet_row self.now.records sheet.now pin.now }
+    {
+        let mut last = None;
+        for record in self.records.as_slice() {
+            last = record.sheet_row(sheet, pin).or(last);
         }
         last
     }

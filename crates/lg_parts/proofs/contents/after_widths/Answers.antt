@@ -1,4 +1,4 @@
-use Rattle.std.proofs.Common.{List, ℕ, rules}
+use Rattle.std.proofs.Common.{List, ℕ}
 use Rattle.std.specs.Prelude.{codes}
 use Rattle.lg_parts.specs.Contents.{Then, Marked, Numbered, EndsLine, HasWidths}
 use Rattle.lg_parts.proofs.ContentsLemmas.{then_read, then_refused, one_marked}

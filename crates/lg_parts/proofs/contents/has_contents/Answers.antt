@@ -1,4 +1,4 @@
-use Rattle.std.proofs.Common.{◌*◌, ◌%◌, ◌^◌, rules, true}
+use Rattle.std.proofs.Common.{◌*◌, ◌%◌, ◌^◌, rules}
 use Rattle.lg_memory.specs.Form.{IsStoreSize}
 use Rattle.lg_parts.proofs.ContentsLemmas.{addresses, contents_read}
 use Rattle.lg_parts.proofs.contents.has_contents.Goals as goal

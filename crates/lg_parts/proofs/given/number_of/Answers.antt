@@ -1,4 +1,4 @@
-use Rattle.std.proofs.Common.{◌≡◌, ◌<◌, ◌≤◌, ℕ, sym}
+use Rattle.std.proofs.Common.{◌<◌, ◌≤◌, ℕ, sym}
 use Rattle.lg_memory.specs.Image.{Spells}
 use Rattle.lg_parts.proofs.NumberLemmas.{number_of-spelled, number_of-none}
 use Rattle.lg_parts.proofs.given.number_of.Goals as goal

@@ -1,6 +1,4 @@
-use Rattle.std.proofs.Common.{◌≡◌, take, ℕ, List}
-use Rattle.std.specs.Prelude.{option_map}
-use denote.Bor.{Bor}
+use Rattle.std.proofs.Common.{◌≡◌, take}
 use Rattle.lg_parts.specs.PortTable.{place_of}
 use Rattle.lg_parts.proofs.port_table.PortTable.place_of.Given as goal
 
