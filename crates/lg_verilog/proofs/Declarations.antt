@@ -97,7 +97,7 @@ port_again p rest good =
 port_reader : IsReader port_at port_tokens IsPort (λ _. Unit {0})
 port_reader = record { takes = port_takes; again = λ p rest good next. port_again p rest good }
 
-other_port_reader : IsReader other_port_at (λ p. Fixed (codes ",") ∷ port_tokens p) IsPort (λ _. Unit {0})
+pub other_port_reader : IsReader other_port_at (λ p. Fixed (codes ",") ∷ port_tokens p) IsPort (λ _. Unit {0})
 unfolding other_port_at
 other_port_reader = record {
   takes = λ ts x e.
@@ -405,10 +405,10 @@ word_again : (w : Word) (rest : List Token) → word_at (word_tokens w ++ rest) 
 unfolding word_at value_at
 word_again w rest = refl
 
-fill_reader : IsReader fill_at fill_tokens (λ _. Unit {0}) (λ _. Unit {0})
+pub fill_reader : IsReader fill_at fill_tokens (λ _. Unit {0}) (λ _. Unit {0})
 fill_reader = record { takes = fill_takes; again = λ f rest good next. fill_again f rest }
 
-word_reader : IsReader word_at word_tokens (λ _. Unit {0}) (λ _. Unit {0})
+pub word_reader : IsReader word_at word_tokens (λ _. Unit {0}) (λ _. Unit {0})
 word_reader = record { takes = word_takes; again = λ w rest good next. word_again w rest }
 
 anything : {A : Type 0} (xs : List A) → AllByRecursion (λ (x : A). Unit {0}) xs

@@ -119,7 +119,7 @@ Follows ts = is_at (codes "[") ts ≡ false
 abbrev pub IsDeep : ℕ → Expr → Type 0
 IsDeep n e = depth e ≤ n
 
-index-item : (inner : List Token → Option (Expr × List Token)) (name : List ℕ) (ts : List Token) → number_at ts ≡ None → index_at inner name ts ≡ item_at inner name ts
+pub index-item : (inner : List Token → Option (Expr × List Token)) (name : List ℕ) (ts : List Token) → number_at ts ≡ None → index_at inner name ts ≡ item_at inner name ts
 unfolding index_at
 index-item inner name [] e = refl
 index-item inner name (Fixed word ∷ ts) e = refl
@@ -250,7 +250,7 @@ module _ (inner : List Token → Option (Expr × List Token)) (n : ℕ) (is : Is
     | inr w ↦ operation_takes ts x w.1
   ]
 
-  other_reader : IsReader (other_at inner) (λ e. Fixed (codes ",") ∷ expr_tokens e) (IsDeep n) Follows
+  pub other_reader : IsReader (other_at inner) (λ e. Fixed (codes ",") ∷ expr_tokens e) (IsDeep n) Follows
   unfolding other_at
   other_reader = record {
     takes = λ ts x e.

@@ -93,7 +93,7 @@ stmt_opens : (s : Stmt) (r : List Token) → goes_on (stmt_tokens s ++ r) ≡ tr
 stmt_opens (stmt.Store name value) r = refl
 stmt_opens (stmt.StoreIf condition name place value) r = refl
 
-stmt_some : (s : Stmt) → 0 < length (stmt_tokens s)
+pub stmt_some : (s : Stmt) → 0 < length (stmt_tokens s)
 stmt_some (stmt.Store name value) = omega arith
 stmt_some (stmt.StoreIf condition name place value) = omega arith
 
@@ -244,7 +244,7 @@ module _ (most : ℕ) where
   pub assign_reader : IsReader (assign_at most) assign_tokens IsAssign (λ _. Unit {0})
   assign_reader = record { takes = assign_takes; again = λ a rest good next. assign_again a rest good }
 
-  stmt_reader : IsReader (stmt_at most) stmt_tokens IsStmt (λ _. Unit {0})
+  pub stmt_reader : IsReader (stmt_at most) stmt_tokens IsStmt (λ _. Unit {0})
   unfolding stmt_at
   stmt_reader = record {
     takes = λ ts x e. elim (chosen (is_at (codes "if") ts) (store_if_at most (tail ts)) (store_at most ts) (Some x) e) as (λ _. Taken stmt_tokens IsStmt ts x) [

@@ -83,7 +83,7 @@ after_name_takes name ts rest e =
     let g = guarded (bytes_eq a.0.0 name) a.0.1 rest a.2 in
     name_takes ts a.0 a.1 ∙ ap (λ m. Named m ∷ a.0.1) (same_bytes a.0.0 name g.0) ∙ ap (λ r. Named name ∷ r) g.1
 
-operator_of_takes : (ops : List Operator) (word : List ℕ) (op : Operator) → operator_of ops word ≡ Some op → word ≡ operator_text op
+pub operator_of_takes : (ops : List Operator) (word : List ℕ) (op : Operator) → operator_of ops word ≡ Some op → word ≡ operator_text op
 operator_of_takes [] word op e = absurd cc
 operator_of_takes (o ∷ ops) word op e = elim (chosen (bytes_eq word (operator_text o)) (Some o) (operator_of ops word) (Some op) e) [
   | inl w ↦ let p : o ≡ op = cc w.1 in same_bytes word (operator_text o) w.0 ∙ ap operator_text p

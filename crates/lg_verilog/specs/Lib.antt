@@ -4,3 +4,4 @@ pub mod Grammar
 pub mod Depth
 pub mod Reading
 pub mod Lexing
+pub mod Limits

@@ -78,6 +78,17 @@ many_at goes one (suc n) ts = if goes ts then (do
   others ← many_at goes one n first.1
   Some (first.0 ∷ others.0, others.1)) else Some ([], ts)
 
+-- things one after the other, as long as the tokens go on
+abbrev pub all_at : {A : Type 0} → (List Token → Bool) → (List Token → Option (A × List Token)) → List Token → Option (List A × List Token)
+all_at goes one ts = many_at goes one (suc (length ts)) ts
+
+-- an expression, and a sign behind it
+abbrev pub before_at : (List Token → Option (Expr × List Token)) → List ℕ → List Token → Option (Expr × List Token)
+before_at inner sign ts = do
+  e ← inner ts
+  end ← after sign e.1
+  Some (e.0, end)
+
 -- after `(~`
 unfoldable pub not_at : (List Token → Option (Expr × List Token)) → List Token → Option (Expr × List Token)
 not_at inner ts = do
@@ -116,7 +127,7 @@ unfoldable pub join_at : (List Token → Option (Expr × List Token)) → List T
 join_at inner ts = do
   first ← inner ts
   second ← other_at inner first.1
-  more ← many_at (is_at (codes ",")) (other_at inner) (suc (length second.1)) second.1
+  more ← all_at (is_at (codes ",")) (other_at inner) second.1
   end ← after (codes "}") more.1
   Some (expr.Join first.0 second.0 more.0, end)
 
@@ -205,7 +216,7 @@ other_port_at ts = after (codes ",") ts >>= port_at
 unfoldable pub ports_at : List Token → Option (List Port × List Token)
 ports_at ts = if is_at (codes ")") ts then Some ([], ts) else (do
   first ← port_at ts
-  more ← many_at (is_at (codes ",")) other_port_at (suc (length first.1)) first.1
+  more ← all_at (is_at (codes ",")) other_port_at first.1
   Some (first.0 ∷ more.0, more.1))
 
 -- after `wire`
@@ -326,8 +337,8 @@ init_start_at ts = do
 unfoldable pub init_at : List Token → Option (Init × List Token)
 init_at ts = do
   start ← init_start_at ts
-  fills ← many_at (is_at (codes "for")) fill_at (suc (length start)) start
-  words ← many_at goes_on word_at (suc (length fills.1)) fills.1
+  fills ← all_at (is_at (codes "for")) fill_at start
+  words ← all_at goes_on word_at fills.1
   end ← after (codes "end") words.1
   Some (record { fills = fills.0; words = words.0 }, end)
 
@@ -405,7 +416,7 @@ edge_start_at ts = do
 unfoldable pub edge_at : ℕ → List Token → Option (Edge × List Token)
 edge_at most ts = do
   kind ← edge_start_at ts
-  stmts ← many_at goes_on (stmt_at most) (suc (length kind.1)) kind.1
+  stmts ← all_at goes_on (stmt_at most) kind.1
   end ← after (codes "end") stmts.1
   Some (record { kind = kind.0; stmts = stmts.0 }, end)
 
@@ -432,9 +443,9 @@ ends_at ts = after (codes "endmodule") ts >>= λ rest. if length rest == 0 then 
 unfoldable pub module_at : ℕ → List Token → Option Module
 module_at most ts = do
   head ← head_at ts
-  decls ← many_at declares decl_at (suc (length head.1)) head.1
+  decls ← all_at declares decl_at head.1
   init ← maybe_init_at decls.1
-  assigns ← many_at (is_at (codes "assign")) (assign_at most) (suc (length init.1)) init.1
+  assigns ← all_at (is_at (codes "assign")) (assign_at most) init.1
   edge ← maybe_edge_at most assigns.1
   end ← ends_at edge.1
   Some (record { name = head.0.0; ports = head.0.1; decls = decls.0; init = init.0; assigns = assigns.0; edge = edge.0 })
@@ -458,3 +469,8 @@ Goes (Err fault) new read = Fails fault read
 abbrev pub Tries : {X : Type 0} → Option X → List Token → List Token → Option (X × List Token) → Type 0
 Tries None old new read = (read ≡ None) × (new ≡ old)
 Tries (Some x) old new read = read ≡ Some (x, new)
+
+-- the same of a function that returns what all tokens give
+abbrev pub Reads : {X : Type 0} → Result X ReadFault → Option X → Type 0
+Reads (Ok x) read = read ≡ Some x
+Reads (Err fault) read = Fails fault read

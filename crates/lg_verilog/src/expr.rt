@@ -1,5 +1,8 @@
 //! Expressions of the subset.
 
+ghost use Rattle.std.specs.Prelude.{◌≡◌};
+ghost use Rattle.lg_verilog.specs.Printed.{operator_text};
+
 use crate::name::Name;
 use sqlite_items::{Boxed, Items};
 
@@ -25,6 +28,44 @@ pub enum Operator {
     Less,
     ShiftLeft,
     ShiftRight,
+}
+
+impl Operator {
+    /// Each operator.
+    pub const ALL: [Operator; 12] = [
+        Operator::And,
+        Operator::Or,
+        Operator::Xor,
+        Operator::Add,
+        Operator::Subtract,
+        Operator::Multiply,
+        Operator::Divide,
+        Operator::Remainder,
+        Operator::Equal,
+        Operator::Less,
+        Operator::ShiftLeft,
+        Operator::ShiftRight,
+    ];
+
+    /// Its spelling.
+    pub fn as_str(self) -> &'static str
+        ensures { result.now ≡ operator_text self }
+    {
+        match self {
+            Operator::And => "&",
+            Operator::Or => "|",
+            Operator::Xor => "^",
+            Operator::Add => "+",
+            Operator::Subtract => "-",
+            Operator::Multiply => "*",
+            Operator::Divide => "/",
+            Operator::Remainder => "%",
+            Operator::Equal => "==",
+            Operator::Less => "<",
+            Operator::ShiftLeft => "<<",
+            Operator::ShiftRight => ">>",
+        }
+    }
 }
 
 /// An expression.

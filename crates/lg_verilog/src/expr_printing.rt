@@ -2,9 +2,9 @@
 
 ghost use Rattle.std.specs.Prelude.{◌≡◌, ◌++◌, OnOk, codes};
 ghost use Rattle.std.specs.Fmt.{decimal};
-ghost use Rattle.lg_verilog.specs.Printed.{constant_text, operator_text, expr_text};
+ghost use Rattle.lg_verilog.specs.Printed.{constant_text, expr_text};
 
-use crate::expr::{Constant, Expr, Operator};
+use crate::expr::{Constant, Expr};
 use crate::name::Name;
 use std::alloc::{AllocError, Global};
 
@@ -51,7 +51,9 @@ pub fn put_expr(alloc: Global, out: &mut Vec<u8>, expr: &Expr) -> Result<(), All
         Expr::Binary(left, operator, right) => {
             put(out, "(")?;
             put_expr(alloc, out, left.get())?;
-            put(out, operator_str(*operator))?;
+            put(out, " ")?;
+            put(out, operator.as_str())?;
+            put(out, " ")?;
             put_expr(alloc, out, right.get())?;
             put(out, ")")
         }
@@ -64,25 +66,6 @@ pub fn put_expr(alloc: Global, out: &mut Vec<u8>, expr: &Expr) -> Result<(), All
             put_expr(alloc, out, no.get())?;
             put(out, ")")
         }
-    }
-}
-
-fn operator_str(operator: Operator) -> &'static str
-    ensures { result.now ≡ codes " " ++ operator_text operator ++ codes " " }
-{
-    match operator {
-        Operator::And => " & ",
-        Operator::Or => " | ",
-        Operator::Xor => " ^ ",
-        Operator::Add => " + ",
-        Operator::Subtract => " - ",
-        Operator::Multiply => " * ",
-        Operator::Divide => " / ",
-        Operator::Remainder => " % ",
-        Operator::Equal => " == ",
-        Operator::Less => " < ",
-        Operator::ShiftLeft => " << ",
-        Operator::ShiftRight => " >> ",
     }
 }
 

@@ -1,14 +1,15 @@
 //! The tokens of a text, taken one at a time from the left.
 
-ghost use Rattle.std.specs.Prelude.{◌≡◌, IsTrue, if◌then◌else◌};
+ghost use Rattle.std.specs.Prelude.{◌≡◌, ◌==◌, IsTrue, length, if◌then◌else◌};
 ghost use Rattle.lg_verilog.specs.Lexing.{tokens_of, left, behind, is_fixed};
-ghost use Rattle.lg_verilog.specs.Reading.{Gives, Goes, Tries, is_at, tail, after, name_at, number_at, constant_at};
+ghost use Rattle.lg_verilog.specs.Reading.{Gives, Goes, Tries, is_at, tail, after, name_at, number_at, constant_at, operator_at, after_number, after_name};
+ghost use Rattle.lg_verilog.specs.Token.{is_name};
 
 use crate::class::split_token;
-use crate::expr::Constant;
+use crate::expr::{Constant, Operator};
 use crate::fault::ReadFault;
 use crate::name::Name;
-use crate::spelling::{constant_of, is_name, number_of};
+use crate::spelling::{constant_of, is_name, number_of, operator_of};
 use lg_text::Text;
 use std::alloc::Global;
 
@@ -35,6 +36,13 @@ impl<'a> Reader<'a> {
         let (token, rest) = split_token(self.rest);
         self.token = token;
         self.rest = rest;
+    }
+
+    /// Whether no token is left.
+    pub fn is_done(&self) -> bool
+        ensures { result ≡ (length (left self.now) == 0) }
+    {
+        self.token.is_empty()
     }
 
     /// Whether this reserved word or sign comes next.
@@ -82,6 +90,19 @@ impl<'a> Reader<'a> {
         Ok(name)
     }
 
+    /// Takes this name, which must come next.
+    pub fn expect_name(&mut self, name: &str) -> Result<(), ReadFault>
+        requires { IsTrue (is_name name.now) }
+        ensures { Goes result (left self.new) (after_name name.now (left self.old)) }
+    {
+        if self.token == name.as_bytes() {
+            self.advance();
+            Ok(())
+        } else {
+            Err(ReadFault::NotSubset)
+        }
+    }
+
     /// Takes a number, where one comes next.
     pub fn try_number(&mut self) -> Option<u128>
         ensures { Tries result (left self.old) (left self.new) (number_at (left self.old)) }
@@ -91,6 +112,25 @@ impl<'a> Reader<'a> {
         Some(number)
     }
 
+    /// Takes a number, which must come next.
+    pub fn number(&mut self) -> Result<u128, ReadFault>
+        ensures { Gives result (left self.new) (number_at (left self.old)) }
+    {
+        self.try_number().ok_or(ReadFault::NotSubset)
+    }
+
+    /// Takes this number, which must come next.
+    #[tactic(auto, unfolding(crate::specs::Reading::after_number))]
+    pub fn expect_number(&mut self, number: u128) -> Result<(), ReadFault>
+        ensures { Goes result (left self.new) (after_number number (left self.old)) }
+    {
+        if self.number()? == number {
+            Ok(())
+        } else {
+            Err(ReadFault::NotSubset)
+        }
+    }
+
     /// Takes a constant, where one comes next.
     pub fn try_constant(&mut self) -> Option<Constant>
         ensures { Tries result (left self.old) (left self.new) (constant_at (left self.old)) }
@@ -98,5 +138,24 @@ impl<'a> Reader<'a> {
         let constant = constant_of(self.token)?;
         self.advance();
         Some(constant)
+    }
+    /// Takes a constant, which must come next.
+    pub fn constant(&mut self) -> Result<Constant, ReadFault>
+        ensures { Gives result (left self.new) (constant_at (left self.old)) }
+    {
+        self.try_constant().ok_or(ReadFault::NotSubset)
+    }
+
+    /// Takes an operator, which must come next.
+    pub fn operator(&mut self) -> Result<Operator, ReadFault>
+        ensures { Gives result (left self.new) (operator_at (left self.old)) }
+    {
+        match operator_of(self.token) {
+            Some(operator) => {
+                self.advance();
+                Ok(operator)
+            }
+            None => Err(ReadFault::NotSubset),
+        }
     }
 }

@@ -5,9 +5,10 @@ ghost use Rattle.std.specs.List.{list_all};
 ghost use Rattle.std.specs.Str.{all_ascii_digits};
 ghost use Rattle.lg_text.specs.NameByte.{is_name_byte};
 ghost use Rattle.lg_verilog.specs.Token.{is_name, is_long_name};
+ghost use Rattle.lg_verilog.specs.Reading.{operator_of, operators};
 ghost use Rattle.lg_verilog.specs.Lexing.{number_of, constant_of, after_d, before_quote, after_quote};
 
-use crate::expr::Constant;
+use crate::expr::{Constant, Operator};
 
 /// How many letters, digits and `_` a name has at most after its first two.
 const MOST_MORE: usize = 298;
@@ -105,4 +106,16 @@ fn split_quote(word: &[u8]) -> (&[u8], &[u8])
         }
     }
     (word, b"".as_slice())
+}
+
+/// The operator that the bytes spell.
+pub fn operator_of(word: &[u8]) -> Option<Operator>
+    ensures { result ≡ operator_of operators word.now }
+{
+    for operator in &Operator::ALL {
+        if word == operator.as_str().as_bytes() {
+            return Some(*operator);
+        }
+    }
+    None
 }
