@@ -1,0 +1,64 @@
+//! The first rule that a module breaks.
+
+ghost use Rattle.std.specs.Prelude.{◌≡◌, true, Some, IfOk};
+ghost use Rattle.lg_vmeaning.specs.Known.{IsIndex, sort_under};
+ghost use Rattle.lg_vmeaning.specs.Rules.{first_broken, last_broken, are_narrow, are_kept_once};
+
+use crate::divisors::are_divided_safely;
+use crate::fault::Memory;
+use crate::names::Names;
+use crate::rules::{are_narrow, ports_are_named};
+use lg_verilog::Module;
+use std::alloc::Global;
+
+/// The first of the rules 1 to 6 that a module breaks; none where it keeps them.
+pub fn first_broken(alloc: Global, module: &Module) -> Result<Option<u32>, Memory>
+    ensures { IfOk result (λ broken. broken ≡ first_broken «module».now) }
+{
+    let Some(names) = Names::of(alloc, module)? else {
+        return Ok(Some(1));
+    };
+    if !ports_are_named(module) {
+        return Ok(Some(1));
+    }
+    if !names.are_used(module) {
+        return Ok(Some(2));
+    }
+    if !are_narrow(module) {
+        return Ok(Some(3));
+    }
+    names.first_broken_of_last(alloc, module)
+}
+
+impl Names {
+    // The first of the rules 3 to 6 that a module of narrow names breaks.
+    fn first_broken_of_last(&self, alloc: Global, module: &Module) -> Result<Option<u32>, Memory>
+        requires index { IsIndex «module».now (Some self.now) }
+        requires narrow { are_narrow «module».now ≡ true }
+        ensures { IfOk result (λ broken. broken ≡ last_broken «module».now) }
+    {
+        if !self.are_fitting(module) {
+            return Ok(Some(3));
+        }
+        if !self.are_assigned_once(alloc, module)? {
+            return Ok(Some(4));
+        }
+        if !self.are_kept_once(alloc, module)? {
+            return Ok(Some(5));
+        }
+        if !are_divided_safely(module) {
+            return Ok(Some(6));
+        }
+        Ok(None)
+    }
+
+    // Whether registers and memories are stored and filled as often as they must be.
+    fn are_kept_once(&self, alloc: Global, module: &Module) -> Result<bool, Memory>
+        ensures { IfOk result (λ answer. answer ≡ are_kept_once (sort_under self.now) «module».now) }
+    {
+        if !self.are_stored_once(alloc, module)? {
+            return Ok(false);
+        }
+        self.are_filled_once(alloc, module)
+    }
+}

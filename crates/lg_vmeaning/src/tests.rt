@@ -1,0 +1,81 @@
+//! Modules that keep the rules, and modules that break one alone, or two at once.
+
+use crate::broken::first_broken;
+use lg_verilog::read_module;
+use std::alloc::Global;
+use std::process::Abort;
+use std::test::Fail;
+
+// The first rule that the module of a text breaks.
+fn broken(rt: &impl Abort, alloc: Global, text: &str) -> Result<Option<u32>, Fail> {
+    let module = read_module(alloc, text.as_bytes()).ok().expect(rt, text);
+    Ok(first_broken(alloc, &module)?)
+}
+
+#[test]
+fn modules_that_keep_the_rules(rt: HostRuntime) -> Result<(), Fail> {
+    let texts = [
+        "module c_main(); endmodule",
+        "module c_(input wire i_, output wire o_Z); assign o_Z = (i_ / ((i_ == 1'd0) ? 1'd1 : i_)); endmodule",
+        "module c_(input wire clk, input wire i_A, output wire [7:0] o_Y); reg [7:0] m0 [0:1]; integer k; initial begin for (k = 0; k < 2; k = k + 1) m0[k] = 8'd0; m0[1] = 8'd5; end assign o_Y = m0[i_A]; always @(posedge clk) begin if (i_A) m0[i_A] <= 8'd7; end endmodule",
+        "module c_(input wire clk, output wire [3:0] o_Q); reg [3:0] r_0 = 4'd9; assign o_Q = {r_0[0], r_0[3:1]}; always @(negedge clk) begin r_0 <= (r_0 >> 3'd4); end endmodule",
+    ];
+    for text in texts {
+        assert_eq!(rt; broken(&rt, rt.alloc(), text)?, None, "{text}");
+    }
+    Ok(())
+}
+
+#[test]
+fn modules_that_break_a_rule(rt: HostRuntime) -> Result<(), Fail> {
+    let cases = [
+        (
+            "module c_(input wire a_, output wire o_Z); assign o_Z = a_; endmodule",
+            1,
+        ),
+        (
+            "module c_(output wire o_Z); wire o_Z; assign o_Z = 1'd0; endmodule",
+            1,
+        ),
+        ("module c_(input wire [1:0] clk); endmodule", 1),
+        ("module c_(output wire o_Z); assign o_Z = w_0; endmodule", 2),
+        (
+            "module c_(input wire clk, output wire o_Z); assign o_Z = clk; endmodule",
+            2,
+        ),
+        (
+            "module c_(input wire i_A, output wire [1:0] o_Z); assign o_Z = i_A; endmodule",
+            3,
+        ),
+        (
+            "module c_(input wire i_A, output wire o_Z); assign o_Z = i_A[0]; endmodule",
+            3,
+        ),
+        (
+            "module c_(output wire o_Z); assign o_Z = 1'd2; endmodule",
+            3,
+        ),
+        (
+            "module c_(output wire o_Z); assign o_Z = 1'd0; assign o_Z = 1'd0; endmodule",
+            4,
+        ),
+        ("module c_(output wire o_Z); endmodule", 4),
+        ("module c_(); reg r_0 = 1'd0; endmodule", 5),
+        (
+            "module c_(input wire i_A, output wire o_Z); assign o_Z = (i_A / i_A); endmodule",
+            6,
+        ),
+        (
+            "module c_(input wire i_A, output wire o_Z); assign o_Z = (i_A % 1'd0); endmodule",
+            6,
+        ),
+        (
+            "module c_(output wire o_Z, output wire o_Z); assign o_Z = w_0; endmodule",
+            1,
+        ),
+    ];
+    for (text, rule) in cases {
+        assert_eq!(rt; broken(&rt, rt.alloc(), text)?, Some(rule), "{text}");
+    }
+    Ok(())
+}
