@@ -52,9 +52,9 @@ inputs_alike c stimuli t p none =
     let now : List Word = bits_read (instant_at c stimuli (suc t)).nets p.1 in
     words_alike (instant_at c stimuli t).nets (instant_at c stimuli (suc t)).nets p.1.inputs ((Decides-same_words before now).0 (not-false (same_words before now) none))
 
--- a steady part without an evaluation answers as at the instant before
+-- a steady part without an evaluation keeps its state, and answers as at the instant before
 pub answer-unevaluated : (greatest : ℕ) (c : Circuit) (stimuli : List Stimulus) (t : ℕ) → All (IsSteady greatest) c.parts
-    → All (λ (p : Numbered). is_evaluated c stimuli (suc t) p ≡ false → answered p (Some (instant_at c stimuli (suc t))) ≡ answered p (Some (instant_at c stimuli t))) (numbered_parts c)
+    → All (λ (p : Numbered). is_evaluated c stimuli (suc t) p ≡ false → (state_of (instant_at c stimuli (suc t)) p.0 ≡ state_of (instant_at c stimuli t) p.0) × (answered p (Some (instant_at c stimuli (suc t))) ≡ answered p (Some (instant_at c stimuli t)))) (numbered_parts c)
 unfolding timeline
 answer-unevaluated greatest c stimuli t steady i d inside none =
     let p : Numbered = get_or (numbered_parts c) i d in
@@ -66,9 +66,11 @@ answer-unevaluated greatest c stimuli t steady i d inside none =
     let is : state_of now p.0 ≡ next_state (before ∷ past) now.nets p = state_of_next c (next_state (before ∷ past) now.nets) now.nets i d inside in
     let state : state_of now p.0 ≡ state_of before p.0 =
     is ∙ ap (λ (words : List Word). p.1.step (state_of before p.0) (input_words before.nets p.1) words) (sym inputs)
-    ∙ next_state_again greatest past before p (steady_numbered greatest c steady i d inside) was ∙ sym was in
-    ap (λ (s : List Word). p.1.out s (input_words now.nets p.1)) state
-    ∙ ap (λ (words : List Word). p.1.out (state_of before p.0) words) (sym inputs)
+    ∙ next_state_again greatest past before p (steady_numbered greatest c steady i d inside) was ∙ sym was in (
+      state,
+      ap (λ (s : List Word). p.1.out s (input_words now.nets p.1)) state
+          ∙ ap (λ (words : List Word). p.1.out (state_of before p.0) words) (sym inputs),
+    )
 
 -- where nothing is attached, no bit differs
 bits_unattached : (f g : ℕ → Bit) (ports : List Port) → All (λ (port : Port). port.nets ≡ []) ports → map (λ (port : Port). map f port.nets) ports ≡ map (λ (port : Port). map g port.nets) ports

@@ -15,7 +15,7 @@ pub record Port : Type 0 where
 -- A part. Its state is a list of words, which is empty for a part without one. `step` gives the next state from the
 -- state, the inputs before and the inputs now; `out` gives a word for each output.
 pub record Part : Type 0 where
-  -- from 1 to 255
+  -- of kinds 1 to 255
   pub delay : ℕ
   pub inputs : List Port
   pub outputs : List Port

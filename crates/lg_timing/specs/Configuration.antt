@@ -93,7 +93,7 @@ staying c k (suc n) = next c (stimulus_of k) (staying c k n)
 abbrev pub IsStill : Circuit → Configuration → Type 0
 IsStill c k = All (λ (p : Numbered). All (λ (words : List Word). words ≡ slice_index_or k.shown p.0 []) (due_of k p)) (numbered_parts c)
 
--- At rest: nothing else is due than what is shown, and no later instant is busy while the stimulus stays.
+-- At rest: what is due is what is shown, and that goes on as long as the stimulus does.
 pub record IsAtRest (c : Circuit) (k : Configuration) : Type 0 where
   pub still : IsStill c k
   pub quiet : (n : ℕ) → (staying c k n).shown ≡ k.shown

@@ -1,10 +1,10 @@
 -- Evaluations of parts, which a simulation counts: at which instants a part has one, and how many a stimulus takes.
 -- Source: the Logisim-evolution user guide, Value propagation (a component is asked again where its inputs change), counted by this project.
-use Rattle.std.specs.Prelude.{◌≡◌, ℕ, zero, suc, ◌+◌, ◌-◌, ◌^◌, min, Bool, true, not, List, map}
+use Rattle.std.specs.Prelude.{◌≡◌, ℕ, zero, suc, ◌+◌, ◌-◌, ◌^◌, min, Bool, true, not, List, map, Some}
 use Rattle.std.specs.List.{count_by}
 use Rattle.lg_value.specs.declared.bit.Bit.{Bit}
 use Rattle.lg_timing.specs.Circuit.{Word, Port, Part, Circuit, Stimulus}
-use Rattle.lg_timing.specs.Instant.{Numbered, numbered_parts, instant_at}
+use Rattle.lg_timing.specs.Instant.{Numbered, numbered_parts, answered, state_of, instant_at}
 use Rattle.lg_timing.specs.declared.run.Settling.{Settling}
 use Rattle.lg_timing.specs.declared.run.Settling.TheVariants.{Settled, Oscillates}
 use Rattle.lg_timing.specs.Settling.{same_words, SettlesWithin, OscillatesPast}
@@ -14,10 +14,15 @@ use Rattle.lg_timing.specs.Configuration.{Configuration, nets_of}
 abbrev pub bits_read : (ℕ → Bit) → Part → List Word
 bits_read nets p = map (λ (port : Port). map nets port.nets) p.inputs
 
--- whether a part has an evaluation: at instant 0, and later where some bit of its inputs differs from the instant before
+-- whether a part is evaluated: once at instant 0, and later at each instant at which an attached input bit has changed
 abbrev pub is_evaluated : Circuit → List Stimulus → ℕ → Numbered → Bool
 is_evaluated c stimuli zero p = true
 is_evaluated c stimuli (suc t) p = not (same_words (bits_read (instant_at c stimuli t).nets p.1) (bits_read (instant_at c stimuli (suc t)).nets p.1))
+
+-- the part's state and its answer at the next instant are those of this one
+pub record StaysAs (c : Circuit) (stimuli : List Stimulus) (t : ℕ) (p : Numbered) : Type 0 where
+  pub state : state_of (instant_at c stimuli (t + 1)) p.0 ≡ state_of (instant_at c stimuli t) p.0
+  pub answer : answered p (Some (instant_at c stimuli (t + 1))) ≡ answered p (Some (instant_at c stimuli t))
 
 -- how many there are at an instant
 abbrev pub evaluations_at : Circuit → List Stimulus → ℕ → ℕ

@@ -1,4 +1,4 @@
--- Value at an instant: a recursion on the instant, over all nets at once.
+-- The value of every net at an instant, by recursion over the instants before it.
 use Rattle.std.specs.Prelude.{ℕ, zero, suc, ◌-◌, ◌==◌, nat_le, List, [], ◌∷◌, ◌++◌, length, map, filter, fold, replicate, Option, Some, None, slice_get, slice_index_or, if◌then◌else◌}
 use Rattle.std.specs.List.{flat_map, enumerate_from}
 use Rattle.lg_value.specs.declared.bit.Bit.{Bit}

@@ -94,8 +94,8 @@ RowStops c limit before from words Settle = Oscillates c limit before (set_at fr
 RowStops c limit before from words Rise = HasClock c.clocks × RiseStops c limit before from words
 RowStops c limit before from words Fall = HasClock c.clocks × FallStops c limit before from words
 
--- Which table some rows have from an instant on, after these stimuli, the first of them being row number `row`. Each next
--- stimulus stands at the settled instant plus 1; the table ends at the first stimulus that oscillates past the limit.
+-- Which table some rows have from an instant on, after these stimuli, the first of them being row number `row`. A stimulus
+-- comes one instant behind where the one before has settled; one that goes past the limit ends the table.
 abbrev pub GoesOn : Circuit → ℕ → List Stimulus → ℕ → ℕ → List (List Word) → List Line → Option Stop → Type 0
 GoesOn c limit before row from [] [] None = Unit {0}
 GoesOn c limit before row from [] [] (Some stop) = ⊥

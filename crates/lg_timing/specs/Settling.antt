@@ -9,7 +9,7 @@ use Rattle.lg_timing.specs.Instant.{Numbered, numbered_parts, outputs_at}
 abbrev pub same_words : List Word → List Word → Bool
 same_words a b = pointwise same_word a b
 
--- some part's output differs from the instant before, be it attached or not; instant 0 is not busy
+-- some part shows another word than one instant ago, at a loose port too; never so at instant 0
 abbrev pub is_busy : Circuit → List Stimulus → ℕ → Bool
 is_busy c stimuli zero = false
 is_busy c stimuli (suc t) = list_any (λ (p : Numbered). not (same_words (outputs_at c stimuli t p) (outputs_at c stimuli (suc t) p))) (numbered_parts c)
@@ -19,7 +19,7 @@ unfoldable pub busy_count : Circuit → List Stimulus → ℕ → ℕ → ℕ
 busy_count c stimuli start zero = 0
 busy_count c stimuli start (suc n) = busy_count c stimuli start n + (if is_busy c stimuli (start + suc n) then 1 else 0)
 
--- For a last stimulus at `start`: it has settled at an instant, the last busy one after it, or `start` where there is none.
+-- A last stimulus that stands at `start` has settled: at once, or at a busy instant, with none behind.
 pub record SettlesAt (c : Circuit) (stimuli : List Stimulus) (start settled : ℕ) : Type 0 where
   pub not_before : start ≤ settled
   pub last_busy : (settled ≡ start) ⊎ (is_busy c stimuli settled ≡ true)

@@ -1,12 +1,12 @@
 //! The laws of time: settling, session tables, configurations, evaluations.
 
-ghost use Rattle.std.specs.Prelude.{◌≡◌, ℕ, ◌+◌, ◌<◌, ◌≤◌, ◌++◌, true, false, List, [], ◌∷◌, length, Some, ◌⊎◌, All};
+ghost use Rattle.std.specs.Prelude.{◌≡◌, ℕ, ◌+◌, ◌<◌, ◌≤◌, ◌++◌, true, false, List, [], ◌∷◌, length, ◌⊎◌, All};
 ghost use Rattle.lg_value.specs.declared.bit.Bit.{Bit};
 ghost use Rattle.lg_timing.specs.Circuit.{Word, Port, Circuit, Stimulus};
-ghost use Rattle.lg_timing.specs.Instant.{Numbered, numbered_parts, answered, in_force, instant_at, value_at, outputs_at};
+ghost use Rattle.lg_timing.specs.Instant.{Numbered, numbered_parts, in_force, instant_at, value_at, outputs_at};
 ghost use Rattle.lg_timing.specs.Session.{Table, IsTable};
 ghost use Rattle.lg_timing.specs.Settling.{is_busy, SettlesAt, SettlesWithin, OscillatesPast, IsSteady, StayFrom, StandAfter};
-ghost use Rattle.lg_timing.specs.Evaluation.{is_evaluated, evaluations_at, evaluations_between};
+ghost use Rattle.lg_timing.specs.Evaluation.{is_evaluated, evaluations_at, evaluations_between, StaysAs};
 ghost use Rattle.lg_timing.specs.Samples.{one_word};
 ghost use Rattle.lg_timing.specs.NotGate.{not_circuit, row_0, both_rows, Shows, not_table};
 ghost use Rattle.lg_timing.specs.Configuration.{Configuration, configuration_at, first, next, going_on, nets_of, shifted, SamePut, stimulus_of, IsStill, IsAtRest, HaveDelays};
@@ -89,10 +89,9 @@ pub fn evaluations_are_counted()
     ensures first { (c : Circuit) (stimuli : List Stimulus) → evaluations_at c stimuli 0 ≡ length c.parts }
     ensures between { (c : Circuit) (stimuli : List Stimulus) (t : ℕ)
         → evaluations_between c (configuration_at c stimuli t) (configuration_at c stimuli (t + 1)) ≡ evaluations_at c stimuli (t + 1) }
-    // A steady part without an evaluation answers as at the instant before.
+    // A steady part without an evaluation keeps its state, and answers as at the instant before.
     ensures others { (greatest : ℕ) (c : Circuit) (stimuli : List Stimulus) (t : ℕ) → All (IsSteady greatest) c.parts
-        → All (λ (p : Numbered). is_evaluated c stimuli (t + 1) p ≡ false
-        → answered p (Some (instant_at c stimuli (t + 1))) ≡ answered p (Some (instant_at c stimuli t))) (numbered_parts c) }
+        → All (λ (p : Numbered). is_evaluated c stimuli (t + 1) p ≡ false → StaysAs c stimuli t p) (numbered_parts c) }
     ensures unattached { (c : Circuit) (stimuli : List Stimulus) (t : ℕ) (p : Numbered)
         → All (λ (port : Port). port.nets ≡ []) p.1.inputs → is_evaluated c stimuli (t + 1) p ≡ false }
     // After all has settled there is none.

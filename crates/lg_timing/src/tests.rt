@@ -134,6 +134,22 @@ fn settling_of(
     settle(alloc, circuit, put.as_slice(), from, limit)
 }
 
+// How many parts of a circuit that is well formed have an evaluation at instants 0, 1 and so on.
+fn expect_evaluations(
+    rt: &impl Abort,
+    alloc: Global,
+    circuit: &Circuit<Sample>,
+    stimuli: &[Stimulus],
+    want: &[usize],
+) -> Result<(), Fail> {
+    assert!(rt; is_well_formed(circuit));
+    for (instant, count) in want.iter().enumerate() {
+        let found = evaluations_at(alloc, circuit, stimuli, instant as u64)?;
+        assert_eq!(rt; found, *count, "at {instant}");
+    }
+    Ok(())
+}
+
 type Ticks = Option<(u64, u64)>;
 
 // The lines of a table, each with the first output, and where it stops.
@@ -165,6 +181,7 @@ fn not_gate_settles_in_one_instant(rt: HostRuntime) -> Result<(), Fail> {
     let put = stimuli(alloc, &[(0, ZERO), (2, ONE)])?;
     let want = [UNKNOWN, ONE, ONE, ZERO, ZERO];
     expect_net(&rt, alloc, &gate, put.as_slice(), 1, &want)?;
+    expect_evaluations(&rt, alloc, &gate, put.as_slice(), &[1, 0, 1, 0, 0])?;
     expect_net(
         &rt,
         alloc,
@@ -398,6 +415,26 @@ fn flip_flop_toggles_at_each_rise(rt: HostRuntime) -> Result<(), Fail> {
         (ONE, 0, Some((5, 0))),
     ];
     expect_table(&rt, alloc, &toggle, rows.as_slice(), 1, &lines, None)
+}
+
+#[test]
+fn flip_flop_takes_the_data_of_its_trigger(rt: HostRuntime) -> Result<(), Fail> {
+    let alloc = rt.alloc();
+    let parts: [(Kind, &[u32], &[u32]); 1] = [(Kind::FlipFlop, &[0, 1], &[2, 3])];
+    let flip = circuit(alloc, &parts, &[0, 1], &[2], &[])?;
+    let mut put = Vec::new(alloc);
+    for (from, data, clock) in [
+        (0, ZERO, ZERO),
+        (1, ONE, ONE),
+        (2, ONE, ZERO),
+        (3, ZERO, ONE),
+    ] {
+        put.push(Stimulus::new(from, words(alloc, &[data, clock])?, ZERO))?;
+    }
+    let want = [
+        UNKNOWN, UNKNOWN, UNKNOWN, UNKNOWN, UNKNOWN, ZERO, ONE, ONE, ZERO,
+    ];
+    expect_net(&rt, alloc, &flip, put.as_slice(), 2, &want)
 }
 
 #[test]
