@@ -11,8 +11,9 @@ use Rattle.lg_vmeaning.specs.declared.names.Sort.{Sort}
 use Rattle.lg_vmeaning.specs.declared.names.Sort.TheVariants as sort
 use Rattle.lg_vmeaning.specs.declared.names.Thing.{Thing}
 use Rattle.lg_vmeaning.specs.declared.names.Names.{Names}
-use Rattle.lg_vmeaning.specs.Things.{things, port_thing, decl_thing, sort_of, width_of, range_width}
-use Rattle.lg_vmeaning.specs.Rules.{most_bits, is_narrow, are_narrow, first_false, are_fitting, are_used, are_assigned_once, are_kept_once}
+use Rattle.lg_vmeaning.specs.Meaning.{range_width}
+use Rattle.lg_vmeaning.specs.Things.{things, port_thing, decl_thing, sort_of, width_of}
+use Rattle.lg_vmeaning.specs.Rules.{most_bits, is_narrow, are_narrow, first_false, are_fitting, are_used, are_assigned_once, are_kept_once, are_indexed}
 use Rattle.lg_vmeaning.specs.Known.{sort_under, width_under, KnowsThings, AreNarrow}
 
 pub sort_is : (m : Module) (index : Names) → KnowsThings (things m) index → sort_under index ≡ sort_of m
@@ -23,6 +24,9 @@ width_is m index knows = λ i name. unwrap_or (option_map (λ (t : Thing). range
 
 pub fits_is : (m : Module) (index : Names) → KnowsThings (things m) index → are_fitting (sort_of m) (width_of m) m ≡ are_fitting (sort_under index) (width_under index) m
 fits_is m index knows = sym (λ i. are_fitting (sort_is m index knows i) (width_is m index knows i) m)
+
+pub indexed_is : (m : Module) (index : Names) → KnowsThings (things m) index → are_indexed (sort_of m) (width_of m) m ≡ are_indexed (sort_under index) (width_under index) m
+indexed_is m index knows = sym (λ i. are_indexed (sort_is m index knows i) (width_is m index knows i) m)
 
 pub used_is : (m : Module) (index : Names) → KnowsThings (things m) index → are_used (sort_of m) m ≡ are_used (sort_under index) m
 used_is m index knows = sym (λ i. are_used (sort_is m index knows i) m)
@@ -67,26 +71,29 @@ narrow_names m index knows e = λ name.
 
 -- tests of which one does not hold
 
-pub third : {a : Bool} (b c d : Bool) → a ≡ false → Some 3 ≡ first_false 3 (a ∷ b ∷ c ∷ d ∷ [])
-third b c d e = rw e refl
+pub third : {a : Bool} (b c d e : Bool) → a ≡ false → Some 3 ≡ first_false 3 (a ∷ b ∷ c ∷ d ∷ e ∷ [])
+third b c d e p = rw p refl
 
-pub fourth : {a b : Bool} (c d : Bool) → a ≡ true → b ≡ false → Some 4 ≡ first_false 3 (a ∷ b ∷ c ∷ d ∷ [])
-fourth c d e f = rw (e, f) refl
+pub fourth : {a b : Bool} (c d e : Bool) → a ≡ true → b ≡ false → Some 4 ≡ first_false 3 (a ∷ b ∷ c ∷ d ∷ e ∷ [])
+fourth c d e p q = rw (p, q) refl
 
-pub fifth : {a b c : Bool} (d : Bool) → a ≡ true → b ≡ true → c ≡ false → Some 5 ≡ first_false 3 (a ∷ b ∷ c ∷ d ∷ [])
-fifth d e f g = rw (e, f, g) refl
+pub fifth : {a b c : Bool} (d e : Bool) → a ≡ true → b ≡ true → c ≡ false → Some 5 ≡ first_false 3 (a ∷ b ∷ c ∷ d ∷ e ∷ [])
+fifth d e p q r = rw (p, q, r) refl
 
-pub sixth : {a b c d : Bool} → a ≡ true → b ≡ true → c ≡ true → d ≡ false → Some 6 ≡ first_false 3 (a ∷ b ∷ c ∷ d ∷ [])
-sixth e f g h = rw (e, f, g, h) refl
+pub sixth : {a b c d : Bool} (e : Bool) → a ≡ true → b ≡ true → c ≡ true → d ≡ false → Some 6 ≡ first_false 3 (a ∷ b ∷ c ∷ d ∷ e ∷ [])
+sixth e p q r s = rw (p, q, r, s) refl
 
-pub none_broken : {a b c d : Bool} → a ≡ true → b ≡ true → c ≡ true → d ≡ true → None ≡ first_false 3 (a ∷ b ∷ c ∷ d ∷ [])
-none_broken e f g h = rw (e, f, g, h) refl
+pub seventh : {a b c d e : Bool} → a ≡ true → b ≡ true → c ≡ true → d ≡ true → e ≡ false → Some 7 ≡ first_false 3 (a ∷ b ∷ c ∷ d ∷ e ∷ [])
+seventh p q r s t = rw (p, q, r, s, t) refl
 
-pub second : {a b : Bool} (c d e f : Bool) → a ≡ true → b ≡ false → Some 2 ≡ first_false 1 (a ∷ b ∷ c ∷ d ∷ e ∷ f ∷ [])
-second c d e f x y = rw (x, y) refl
+pub none_broken : {a b c d e : Bool} → a ≡ true → b ≡ true → c ≡ true → d ≡ true → e ≡ true → None ≡ first_false 3 (a ∷ b ∷ c ∷ d ∷ e ∷ [])
+none_broken p q r s t = rw (p, q, r, s, t) refl
 
-pub third_wide : {a b n : Bool} (f d e g : Bool) → a ≡ true → b ≡ true → n ≡ false → Some 3 ≡ first_false 1 (a ∷ b ∷ (n && f) ∷ d ∷ e ∷ g ∷ [])
-third_wide f d e g x y z = rw (x, y, z) refl
+pub second : {a b : Bool} (c d e f g : Bool) → a ≡ true → b ≡ false → Some 2 ≡ first_false 1 (a ∷ b ∷ c ∷ d ∷ e ∷ f ∷ g ∷ [])
+second c d e f g p q = rw (p, q) refl
 
-pub later : {a b n : Bool} (f d e g : Bool) → a ≡ true → b ≡ true → n ≡ true → first_false 3 (f ∷ d ∷ e ∷ g ∷ []) ≡ first_false 1 (a ∷ b ∷ (n && f) ∷ d ∷ e ∷ g ∷ [])
-later f d e g x y z = rw (x, y, z) refl
+pub third_wide : {a b n : Bool} (c d e f g : Bool) → a ≡ true → b ≡ true → n ≡ false → Some 3 ≡ first_false 1 (a ∷ b ∷ (n && c) ∷ d ∷ e ∷ f ∷ g ∷ [])
+third_wide c d e f g p q r = rw (p, q, r) refl
+
+pub later : {a b n : Bool} (c d e f g : Bool) → a ≡ true → b ≡ true → n ≡ true → first_false 3 (c ∷ d ∷ e ∷ f ∷ g ∷ []) ≡ first_false 1 (a ∷ b ∷ (n && c) ∷ d ∷ e ∷ f ∷ g ∷ [])
+later c d e f g p q r = rw (p, q, r) refl

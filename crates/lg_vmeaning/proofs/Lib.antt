@@ -1,6 +1,7 @@
 pub mod InOrderLemmas
 mod DivisorLemmas
 mod IndexLemmas
+mod IndexWidthLemmas
 mod InsideLemmas
 mod NameLemmas
 mod OnceLemmas

@@ -11,7 +11,8 @@ use Rattle.lg_vmeaning.specs.declared.names.Names.{Names}
 use Rattle.lg_vmeaning.specs.declared.name_set.NameSet.{NameSet}
 use Rattle.lg_vmeaning.specs.declared.once.Role.{Role}
 use Rattle.lg_vmeaning.specs.declared.once.Role.TheVariants as role
-use Rattle.lg_vmeaning.specs.Things.{things, names, range_width, is_assignable, is_reg, is_memory}
+use Rattle.lg_vmeaning.specs.Meaning.{range_width}
+use Rattle.lg_vmeaning.specs.Things.{things, names, is_assignable, is_reg, is_memory}
 use Rattle.lg_vmeaning.specs.Rules.{is_among, all_differ}
 
 -- what stands under a name

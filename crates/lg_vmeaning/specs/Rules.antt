@@ -1,6 +1,6 @@
 -- Which modules are valid: seven rules, of which each later one is asked only where the earlier ones hold.
 -- Source: IEEE 1364-2005, 12.3 (ports), 4.2 and 4.9 (declarations), 5.4 (widths of expressions), 6.1 and 9.2 (assignments), in a narrower form.
-use Rattle.std.specs.Prelude.{ℕ, ◌+◌, ◌-◌, ◌^◌, ◌==◌, nat_le, nat_lt, Bool, true, false, not, ◌&&◌, ◌||◌, List, [], ◌∷◌, map, length, take, Option, Some, None, option_map, option_and_then, unwrap_or, is_some, codes, if◌then◌else◌}
+use Rattle.std.specs.Prelude.{ℕ, zero, suc, sum_by, ◌+◌, ◌-◌, ◌^◌, ◌==◌, nat_le, nat_lt, Bool, true, false, not, ◌&&◌, ◌||◌, List, [], ◌∷◌, map, length, take, Option, Some, None, option_map, option_and_then, unwrap_or, is_some, codes, if◌then◌else◌}
 use Rattle.std.specs.List.{list_all, list_any}
 use Rattle.std.specs.Str.{bytes_eq}
 use Rattle.lg_verilog.specs.declared.module.Port.{Port}
@@ -23,8 +23,9 @@ use Rattle.lg_verilog.specs.Printed.{operator_text}
 use Rattle.lg_vmeaning.specs.declared.names.Sort.{Sort}
 use Rattle.lg_vmeaning.specs.declared.names.Sort.TheVariants as sort
 use Rattle.lg_vmeaning.specs.declared.names.Thing.{Thing}
+use Rattle.lg_vmeaning.specs.Meaning.{range_width, operator_width}
 use Rattle.lg_vmeaning.specs.Inside.{holds_inside}
-use Rattle.lg_vmeaning.specs.Things.{things, port_thing, decl_thing, names, sort_of, width_of, range_width, is_reg, is_memory, is_assignable, is_readable}
+use Rattle.lg_vmeaning.specs.Things.{things, port_thing, decl_thing, names, sort_of, width_of, is_reg, is_memory, is_assignable, is_readable}
 
 -- the name is one of these
 abbrev pub is_among : List ℕ → List (List ℕ) → Bool
@@ -110,12 +111,6 @@ abbrev pub is_shift : Operator → Bool
 is_shift operator.ShiftLeft = true
 is_shift operator.ShiftRight = true
 is_shift _ = false
-
--- how wide an operation is: a comparison has one bit, all else the width of its left side
-abbrev pub operator_width : Operator → ℕ → ℕ
-operator_width operator.Equal width = 1
-operator_width operator.Less width = 1
-operator_width _ width = width
 
 -- the sum of widths, where each is there
 abbrev pub sum_of : List (Option ℕ) → Option ℕ
@@ -316,18 +311,64 @@ stmt_divides_safely (stmt.StoreIf condition name place value) =
 abbrev pub are_divided_safely : Module → Bool
 are_divided_safely m = list_all (λ (a : Assign). holds_inside divides_safely a.value) m.assigns && list_all stmt_divides_safely (stmts_of m)
 
+-- 7: a memory has 2, 4, 8, .. words, an index in it is as wide as its places, and all memories together have at most 1,048,576 words
+
+-- the least of so many widths, from one on, whose numbers tell so many places
+abbrev pub width_from : ℕ → ℕ → ℕ → Option ℕ
+width_from zero width places = None
+width_from (suc n) width places = if places == 2 ^ width then Some width else width_from n (width + 1) places
+
+-- how wide an index of a memory is; none where its words are no power of two
+abbrev pub index_width : ℕ → Option ℕ
+index_width last = width_from 20 1 (last + 1)
+
+abbrev pub is_index : Option ℕ → Option ℕ → Bool
+is_index (Some wanted) (Some width) = wanted == width
+is_index _ _ = false
+
+-- the expression is as wide as the places of the memory of this name
+abbrev pub indexes : (List ℕ → Option Sort) → (List ℕ → ℕ) → List ℕ → Expr → Bool
+indexes sort width name e = is_index (index_width (last_place (sort name))) (expr_width width e)
+
+abbrev pub index_fits : (List ℕ → Option Sort) → (List ℕ → ℕ) → Expr-F Expr → Bool
+index_fits sort width (Expr-F.Item name e) = indexes sort width name e
+index_fits sort width _ = true
+
+abbrev pub all_index : (List ℕ → Option Sort) → (List ℕ → ℕ) → Expr → Bool
+all_index sort width e = holds_inside (index_fits sort width) e
+
+abbrev pub stmt_indexes : (List ℕ → Option Sort) → (List ℕ → ℕ) → Stmt → Bool
+stmt_indexes sort width (stmt.Store name value) = all_index sort width value
+stmt_indexes sort width (stmt.StoreIf condition name place value) =
+    indexes sort width name place && (all_index sort width condition && (all_index sort width place && all_index sort width value))
+
+abbrev pub decl_words : Decl → ℕ
+decl_words (decl.Wire range name) = 0
+decl_words (decl.Reg range name start) = 0
+decl_words (decl.Memory range name last) = last + 1
+
+abbrev pub decl_is_whole : Decl → Bool
+decl_is_whole (decl.Wire range name) = true
+decl_is_whole (decl.Reg range name start) = true
+decl_is_whole (decl.Memory range name last) = is_some (index_width last)
+
+abbrev pub are_indexed : (List ℕ → Option Sort) → (List ℕ → ℕ) → Module → Bool
+are_indexed sort width m =
+    (list_all decl_is_whole m.decls && nat_le (sum_by decl_words m.decls) 1048576)
+    && (list_all (λ (a : Assign). all_index sort width a.value) m.assigns && list_all (stmt_indexes sort width) (stmts_of m))
+
 -- the number of the first test that does not hold, counted from this one
 abbrev pub first_false : ℕ → List Bool → Option ℕ
 first_false n [] = None
 first_false n (holds ∷ more) = if holds then first_false (n + 1) more else Some n
 
--- the first of the rules 3 to 6 that a module of names that are narrow breaks
+-- the first of the rules from the third on that a module of names that are narrow breaks
 abbrev pub last_broken : Module → Option ℕ
 last_broken m =
-    first_false 3 (are_fitting (sort_of m) (width_of m) m ∷ are_assigned_once (sort_of m) m ∷ are_kept_once (sort_of m) m ∷ are_divided_safely m ∷ [])
+    first_false 3 (are_fitting (sort_of m) (width_of m) m ∷ are_assigned_once (sort_of m) m ∷ are_kept_once (sort_of m) m ∷ are_divided_safely m ∷ are_indexed (sort_of m) (width_of m) m ∷ [])
 
--- the first of the rules 1 to 6 that a module breaks
+-- the first of the seven rules that a module breaks
 abbrev pub first_broken : Module → Option ℕ
 first_broken m =
     first_false 1
-    (are_named m ∷ are_used (sort_of m) m ∷ (are_narrow m && are_fitting (sort_of m) (width_of m) m) ∷ are_assigned_once (sort_of m) m ∷ are_kept_once (sort_of m) m ∷ are_divided_safely m ∷ [])
+    (are_named m ∷ are_used (sort_of m) m ∷ (are_narrow m && are_fitting (sort_of m) (width_of m) m) ∷ are_assigned_once (sort_of m) m ∷ are_kept_once (sort_of m) m ∷ are_divided_safely m ∷ are_indexed (sort_of m) (width_of m) m ∷ [])

@@ -1,6 +1,6 @@
 -- What a module declares: its ports, wires, registers and memories, each with its name, its sort and its width.
 -- Source: IEEE 1364-2005, 12.3 (ports), 4.2 (nets and variables), 4.9 (arrays).
-use Rattle.std.specs.Prelude.{ℕ, ◌+◌, Bool, true, false, List, ◌++◌, map, filter, Option, Some, None, option_map, unwrap_or, codes, if◌then◌else◌}
+use Rattle.std.specs.Prelude.{ℕ, Bool, true, false, List, ◌++◌, map, filter, Option, option_map, unwrap_or, codes, if◌then◌else◌}
 use Rattle.std.specs.Map.{lookup}
 use Rattle.std.specs.Str.{bytes_eq}
 use Rattle.lg_verilog.specs.declared.module.Direction.{Direction}
@@ -9,6 +9,7 @@ use Rattle.lg_verilog.specs.declared.module.Port.{Port}
 use Rattle.lg_verilog.specs.declared.module.Decl.{Decl}
 use Rattle.lg_verilog.specs.declared.module.Decl.TheVariants as decl
 use Rattle.lg_verilog.specs.declared.module.Module.{Module}
+use Rattle.lg_vmeaning.specs.Meaning.{range_width}
 use Rattle.lg_vmeaning.specs.declared.names.Sort.{Sort}
 use Rattle.lg_vmeaning.specs.declared.names.Sort.TheVariants as sort
 use Rattle.lg_vmeaning.specs.declared.names.Thing.{Thing}
@@ -40,11 +41,6 @@ thing_of m name = lookup (λ other. bytes_eq other name) (things m)
 
 abbrev pub sort_of : Module → List ℕ → Option Sort
 sort_of m name = option_map (λ (t : Thing). t.sort) (thing_of m name)
-
--- how many bits a range has: those from its high index down to 0, and one where there is none
-abbrev pub range_width : Option ℕ → ℕ
-range_width None = 1
-range_width (Some high) = high + 1
 
 -- the width of a name, and 0 of one that is not declared
 abbrev pub width_of : Module → List ℕ → ℕ

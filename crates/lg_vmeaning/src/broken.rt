@@ -11,7 +11,7 @@ use crate::rules::{are_narrow, ports_are_named};
 use lg_verilog::Module;
 use std::alloc::Global;
 
-/// The first of the rules 1 to 6 that a module breaks; none where it keeps them.
+/// The first of the seven rules that a module breaks; none where it keeps them.
 pub fn first_broken(alloc: Global, module: &Module) -> Result<Option<u32>, Memory>
     ensures { IfOk result (λ broken. broken ≡ first_broken «module».now) }
 {
@@ -31,7 +31,7 @@ pub fn first_broken(alloc: Global, module: &Module) -> Result<Option<u32>, Memor
 }
 
 impl Names {
-    // The first of the rules 3 to 6 that a module of narrow names breaks.
+    // The first of the rules from the third on that a module of narrow names breaks.
     fn first_broken_of_last(&self, alloc: Global, module: &Module) -> Result<Option<u32>, Memory>
         requires index { IsIndex «module».now (Some self.now) }
         requires narrow { are_narrow «module».now ≡ true }
@@ -48,6 +48,9 @@ impl Names {
         }
         if !are_divided_safely(module) {
             return Ok(Some(6));
+        }
+        if !self.are_indexed(module) {
+            return Ok(Some(7));
         }
         Ok(None)
     }

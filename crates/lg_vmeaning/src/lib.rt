@@ -5,6 +5,7 @@ mod broken;
 mod divisors;
 mod fault;
 mod fitting;
+mod indexing;
 mod name_set;
 mod names;
 mod once;

@@ -70,6 +70,14 @@ fn modules_that_break_a_rule(rt: HostRuntime) -> Result<(), Fail> {
             6,
         ),
         (
+            "module c_(); reg m0 [0:0]; integer k; initial begin for (k = 0; k < 1; k = k + 1) m0[k] = 1'd0; end endmodule",
+            7,
+        ),
+        (
+            "module c_(input wire [1:0] i_A, output wire o_Z); reg m0 [0:1]; integer k; initial begin for (k = 0; k < 2; k = k + 1) m0[k] = 1'd0; end assign o_Z = m0[i_A]; endmodule",
+            7,
+        ),
+        (
             "module c_(output wire o_Z, output wire o_Z); assign o_Z = w_0; endmodule",
             1,
         ),

@@ -2,7 +2,8 @@
 
 ghost use Rattle.std.specs.Prelude.{◌≡◌, ◌≤◌, ◌*◌, ◌^◌, nat_lt, length, map, IfSome};
 ghost use Rattle.lg_vmeaning.specs.Known.{width_under, AreNarrow};
-ghost use Rattle.lg_vmeaning.specs.Rules.{constant_fits, constant_width, place_width, part_width, at_most_128, is_shift, operator_width, binary_width, choice_width, sum_of, expr_width};
+ghost use Rattle.lg_vmeaning.specs.Meaning.{operator_width};
+ghost use Rattle.lg_vmeaning.specs.Rules.{constant_fits, constant_width, place_width, part_width, at_most_128, is_shift, binary_width, choice_width, sum_of, expr_width};
 
 use crate::names::Names;
 use lg_verilog::{Constant, Expr, Name, Operator};
