@@ -210,7 +210,7 @@ are_fitting sort width m =
 abbrev pub has_each : (Sort → Bool) → (List ℕ → Bool) → Module → Bool
 has_each is holds m = list_all (λ (t : List ℕ × Thing). not (is t.1.sort) || holds t.0) (things m)
 
--- 4: each wire and output is assigned exactly once, and nothing else is
+-- 4: wires and outputs, and they alone, have one assign each
 
 abbrev pub assigned : Module → List (List ℕ)
 assigned m = map (λ (a : Assign). a.name) m.assigns
@@ -219,7 +219,7 @@ abbrev pub are_assigned_once : (List ℕ → Option Sort) → Module → Bool
 are_assigned_once sort m =
     all_differ (assigned m) && (list_all (λ (a : Assign). is_of is_assignable sort a.name) m.assigns && has_each is_assignable (λ name. is_among name (assigned m)) m)
 
--- 5: each register is stored exactly once and each memory at most once, at an edge of the clock; each memory is filled exactly once, over its whole length
+-- 5: a register has one store and a memory one or none, at an edge of the clock; a memory has one fill, which is as long as it is
 
 abbrev pub stored_name : Stmt → List ℕ
 stored_name (stmt.Store name value) = name
@@ -252,7 +252,7 @@ are_filled_once sort m =
 abbrev pub are_kept_once : (List ℕ → Option Sort) → Module → Bool
 are_kept_once sort m = are_stored_once sort m && are_filled_once sort m
 
--- 6: what is divided by is a constant above 0, or `((e == W'd0) ? W'd1 : e)`
+-- 6: a divisor is a constant that is not 0, or an expression that stands behind a test for 0: `((e == 8'd0) ? 8'd1 : e)`
 
 abbrev pub same_each : List (Expr → Bool) → List Expr → Bool
 same_each [] [] = true
@@ -311,7 +311,7 @@ stmt_divides_safely (stmt.StoreIf condition name place value) =
 abbrev pub are_divided_safely : Module → Bool
 are_divided_safely m = list_all (λ (a : Assign). holds_inside divides_safely a.value) m.assigns && list_all stmt_divides_safely (stmts_of m)
 
--- 7: a memory has 2, 4, 8, .. words, an index in it is as wide as its places, and all memories together have at most 1,048,576 words
+-- 7: a memory has 2, 4, 8, .. words, an index in it is as wide as its places, and there are no more than 1,048,576 words in all
 
 -- the least of so many widths, from one on, whose numbers tell so many places
 abbrev pub width_from : ℕ → ℕ → ℕ → Option ℕ

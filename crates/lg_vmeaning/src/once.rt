@@ -108,7 +108,7 @@ impl Names {
         fill.count.checked_sub(1) == Some(self.last_place(&fill.name))
     }
 
-    /// Whether each wire and output is assigned exactly once, and nothing else is.
+    /// Whether wires and outputs, and they alone, have one assign each.
     pub fn are_assigned_once(&self, alloc: Global, module: &Module) -> Result<bool, Memory>
         ensures { IfOk result (λ answer. answer ≡ are_assigned_once (sort_under self.now) «module».now) }
     {
