@@ -86,7 +86,7 @@ moved ts us b c p q h = subst (λ t. Told t b) (sym p) (subst (Told us) (sym q) 
 
 -- expressions
 
-text-roll : (f : Expr-F Expr) (e : Expr) → roll-Expr f ≡ e → expr_text e ≡ form_text (Rattle.lg_verilog.specs.declared.expr.Expr.TheFolds.map-Expr _ (List ℕ) expr_text f)
+pub text-roll : (f : Expr-F Expr) (e : Expr) → roll-Expr f ≡ e → expr_text e ≡ form_text (Rattle.lg_verilog.specs.declared.expr.Expr.TheFolds.map-Expr _ (List ℕ) expr_text f)
 text-roll f e r = ap (λ x. fold-Expr (List ℕ) form_text x) (sym r) ∙ fold-roll-Expr (List ℕ) form_text f
 
 -- an expression, behind white space and before what does not run into it

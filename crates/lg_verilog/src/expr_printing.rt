@@ -1,16 +1,21 @@
 //! Expressions as text, in the printed layout.
 
-ghost use Rattle.std.specs.Prelude.{◌≡◌, ◌++◌, OnOk, codes};
+ghost use Rattle.std.specs.Prelude.{◌≡◌, ◌++◌, OnOk, codes, IsTrue, [], ◌∷◌};
 ghost use Rattle.std.specs.Fmt.{decimal};
+ghost use Rattle.std.specs.List.{list_all};
+ghost use Rattle.lg_verilog.specs.Token.{is_name, is_number};
 ghost use Rattle.lg_verilog.specs.Printed.{constant_text, expr_text};
+ghost use Rattle.lg_verilog.specs.Grammar.{Sized, is_token, expr_tokens};
 
 use crate::expr::{Constant, Expr};
 use crate::name::Name;
 use std::alloc::{AllocError, Global};
 
 /// Adds the text of an expression.
+#[tactic(auto, using(crate::proofs::Parts::const_from_parts, crate::proofs::Parts::whole_from_parts, crate::proofs::Parts::place_from_parts, crate::proofs::Parts::part_from_parts, crate::proofs::Parts::item_from_parts, crate::proofs::Parts::join_from_parts, crate::proofs::Parts::not_from_parts, crate::proofs::Parts::binary_from_parts, crate::proofs::Parts::choice_from_parts))]
 pub fn put_expr(alloc: Global, out: &mut Vec<u8>, expr: &Expr) -> Result<(), AllocError>
-    ensures { OnOk result (out.new.items ≡ out.old.items ++ expr_text expr.now) }
+    ensures text { OnOk result (out.new.items ≡ out.old.items ++ expr_text expr.now) }
+    ensures tokens { OnOk result (IsTrue (list_all is_token (expr_tokens expr.now))) }
 {
     match expr {
         Expr::Const(constant) => put_constant(alloc, out, *constant),
@@ -70,7 +75,8 @@ pub fn put_expr(alloc: Global, out: &mut Vec<u8>, expr: &Expr) -> Result<(), All
 }
 
 fn put_open(out: &mut Vec<u8>, name: &Name) -> Result<(), AllocError>
-    ensures { OnOk result (out.new.items ≡ out.old.items ++ name.now ++ codes "[") }
+    ensures text { OnOk result (out.new.items ≡ out.old.items ++ name.now ++ codes "[") }
+    ensures is_name { OnOk result (IsTrue (is_name name.now)) }
 {
     put(out, name.as_str())?;
     put(out, "[")
@@ -78,7 +84,8 @@ fn put_open(out: &mut Vec<u8>, name: &Name) -> Result<(), AllocError>
 
 /// Adds a constant.
 pub fn put_constant(alloc: Global, out: &mut Vec<u8>, constant: Constant) -> Result<(), AllocError>
-    ensures { OnOk result (out.new.items ≡ out.old.items ++ constant_text constant) }
+    ensures text { OnOk result (out.new.items ≡ out.old.items ++ constant_text constant) }
+    ensures tokens { OnOk result (IsTrue (list_all is_token (Sized constant ∷ []))) }
 {
     put_number(alloc, out, constant.width)?;
     put(out, "'d")?;
@@ -87,7 +94,8 @@ pub fn put_constant(alloc: Global, out: &mut Vec<u8>, constant: Constant) -> Res
 
 /// Adds a number in decimal digits.
 pub fn put_number(alloc: Global, out: &mut Vec<u8>, number: u128) -> Result<(), AllocError>
-    ensures { OnOk result (out.new.items ≡ out.old.items ++ decimal number) }
+    ensures text { OnOk result (out.new.items ≡ out.old.items ++ decimal number) }
+    ensures is_number { OnOk result (IsTrue (is_number number)) }
 {
     put(out, number.to_string(alloc)?.as_str())
 }

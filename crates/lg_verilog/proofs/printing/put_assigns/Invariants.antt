@@ -1,8 +1,12 @@
 use Rattle.std.proofs.Common.{◌≡◌, ◌++◌, drop}
-use Rattle.std.specs.List.{flat_map}
+use Rattle.std.specs.Prelude.{IsTrue}
+use Rattle.std.specs.List.{flat_map, list_all}
 use Rattle.lg_verilog.specs.Printed.{assign_text}
+use Rattle.lg_verilog.specs.Grammar.{is_token, assign_tokens}
 use Rattle.lg_verilog.proofs.printing.put_assigns.Given as goal
 
--- what is printed and what is left are all
+-- what is printed and what is left are all, and all are of the subset where what is left is
 abbrev pub invariant-loop-assign : goal.invariant-loop-assign
-invariant-loop-assign l = l.out.items ++ flat_map assign_text (drop l.assign-index l.assigns) ≡ l.fn.out.items ++ flat_map assign_text l.assigns
+invariant-loop-assign l =
+    (l.out.items ++ flat_map assign_text (drop l.assign-index l.assigns) ≡ l.fn.out.items ++ flat_map assign_text l.assigns)
+    × (IsTrue (list_all is_token (flat_map assign_tokens (drop l.assign-index l.assigns))) → IsTrue (list_all is_token (flat_map assign_tokens l.assigns)))
