@@ -19,7 +19,7 @@ const INIT_HEAD: &str = "  integer k;\n  initial begin\n";
 
 /// The text of a module in the printed layout: a line for each item, in the module's order.
 ///
-/// It is a text of the module in the grammar, so `read_module` reads it as this module where it is within the limits.
+/// It is a text of the module in the grammar. So `read_module` gives this module for it, where it is within the limits and there is memory.
 #[tactic(auto, using(crate::proofs::Told::printed))]
 pub fn print(alloc: Global, module: &Module) -> Result<Vec<u8>, Memory>
     ensures text { IfOk result (λ text. text.items ≡ module_text «module».now) }

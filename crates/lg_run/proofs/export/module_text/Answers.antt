@@ -44,12 +44,12 @@ returns c =
           says = c.in_ok-project.ensures.found;
           built = c.in_ok-netlist.ensures.found;
           accepted = c.in_ok-module.ensures.accepted refl;
-          printed = c.in_ok-print.ensures ∙ ap module_text c.in_ok-module.ensures.layout;
+          printed = c.in_ok-print.ensures.text ∙ ap module_text c.in_ok-module.ensures.layout;
         };
         only = λ other t.
             let same = c.in_ok-project.ensures.only t.project t.says c.in_ok-project.ensures.within in
             let one = c.in_ok-netlist.ensures.only t.netlist (subst (λ (p : Project). IsBuilt p t.netlist) (sym same) t.built) in
-            t.printed ∙ (ap (λ (n : Netlist). module_text (module_of n)) one ∙ sym (c.in_ok-print.ensures ∙ ap module_text c.in_ok-module.ensures.layout));
+            t.printed ∙ (ap (λ (n : Netlist). module_text (module_of n)) one ∙ sym (c.in_ok-print.ensures.text ∙ ap module_text c.in_ok-module.ensures.layout));
         agrees = λ one. subst (λ (m : Module). Agrees netlist m) c.in_ok-module.ensures.layout (c.in_ok-module.ensures.agrees one);
         in_time = λ one rows defined.
             subst (λ (m : Module). AgreesInTime netlist m) c.in_ok-module.ensures.layout (c.in_ok-module.ensures.in_time one)

@@ -1,12 +1,12 @@
-use Rattle.std.proofs.Common.{◌++◌, ℕ, List, rules, sym, ap, ◌∙◌}
-use Rattle.lg_verilog.specs.declared.expr.Expr.TheVariants as expr
+use Rattle.std.proofs.Common.{rules}
 use Rattle.lg_verilog.proofs.Parts.{join_from_parts}
 use Rattle.lg_verilog.proofs.Forms.{place_printed, part_printed, item_printed, not_printed, binary_printed, choice_printed, join_begun}
 use Rattle.lg_verilog.proofs.expr_printing.+put_expr.Goals as goal
 
 pub loop-other-init : goal.loop-other-init
 loop-other-init t c = (
-  join_begun _ _ _ _ _ _ _ _ _ (c.in-Join.is ∙ ap (λ x. expr.Join x c.in-Join.second c.in-Join.more) (sym c.get-in-Join.ensures) ∙ ap (λ x. expr.Join c.get-in-Join.result.now x c.in-Join.more) (sym c.get-in-Join-2.ensures) ∙ ap (λ x. expr.Join c.get-in-Join.result.now c.get-in-Join-2.result.now x) (sym c.as_slice-other-items.ensures)) c.in_ok-put-in-Join.ensures c.in_ok-put_expr-in-Join.ensures.text c.in_ok-put-in-Join-2.ensures c.in_ok-put_expr-in-Join-2.ensures.text,
+  join_begun _ _ _ _ _ _ _ _ _ _ _ _ c.in-Join.is c.get-in-Join.ensures c.get-in-Join-2.ensures c.as_slice-other-items.ensures
+      c.in_ok-put-in-Join.ensures c.in_ok-put_expr-in-Join.ensures.text c.in_ok-put-in-Join-2.ensures c.in_ok-put_expr-in-Join-2.ensures.text,
   λ m. search (rules, join_from_parts, m),
 )
 
@@ -20,18 +20,18 @@ returns-in_ok-put_number-in-Part-2-clause-text t c =
 
 pub returns-in_ok-put_expr-in-Item-clause-text : goal.returns-in_ok-put_expr-in-Item-clause-text
 returns-in_ok-put_expr-in-Item-clause-text t c =
-    item_printed c.put-in-Item.result _ _ _ _ _ _ _ (c.in-Item.is ∙ ap (λ x. expr.Item c.in-Item.name x) (sym c.get.ensures)) c.in_ok-put_open-in-Item.ensures.text c.in_ok-put_expr-in-Item.ensures.text c.put-in-Item.ensures
+    item_printed c.put-in-Item.result _ _ _ _ _ _ _ _ c.in-Item.is c.get.ensures c.in_ok-put_open-in-Item.ensures.text c.in_ok-put_expr-in-Item.ensures.text c.put-in-Item.ensures
 
 pub returns-in_ok-put_expr-in-Not-clause-text : goal.returns-in_ok-put_expr-in-Not-clause-text
 returns-in_ok-put_expr-in-Not-clause-text t c =
-    not_printed c.put-in-Not-2.result _ _ _ _ _ _ (c.in-Not.is ∙ ap (λ x. expr.Not x) (sym c.get-in-Not.ensures)) c.in_ok-put-in-Not.ensures c.in_ok-put_expr-in-Not.ensures.text c.put-in-Not-2.ensures
+    not_printed c.put-in-Not-2.result _ _ _ _ _ _ _ c.in-Not.is c.get-in-Not.ensures c.in_ok-put-in-Not.ensures c.in_ok-put_expr-in-Not.ensures.text c.put-in-Not-2.ensures
 
 pub returns-in_ok-put_expr-in-Binary-2-clause-text : goal.returns-in_ok-put_expr-in-Binary-2-clause-text
 returns-in_ok-put_expr-in-Binary-2-clause-text t c =
-    binary_printed c.put-in-Binary-5.result _ _ _ _ _ _ _ _ _ _ _ _ (c.in-Binary.is ∙ ap (λ x. expr.Binary x c.in-Binary.operator c.in-Binary.right) (sym c.get-in-Binary.ensures) ∙ ap (λ x. expr.Binary c.get-in-Binary.result.now c.in-Binary.operator x) (sym c.get-in-Binary-2.ensures)) c.in_ok-put-in-Binary.ensures c.in_ok-put_expr-in-Binary.ensures.text c.in_ok-put-in-Binary-2.ensures (c.in_ok-put-in-Binary-3.ensures ∙ ap (λ (t : List ℕ). c.put-in-Binary-2.new.out.items ++ t) c.as_str-in-Binary.ensures)
-    c.in_ok-put-in-Binary-4.ensures c.in_ok-put_expr-in-Binary-2.ensures.text c.put-in-Binary-5.ensures
+    binary_printed c.put-in-Binary-5.result _ _ _ _ _ _ _ _ _ _ _ _ _ _ _ c.in-Binary.is c.get-in-Binary.ensures c.as_str-in-Binary.ensures c.get-in-Binary-2.ensures
+    c.in_ok-put-in-Binary.ensures c.in_ok-put_expr-in-Binary.ensures.text c.in_ok-put-in-Binary-2.ensures c.in_ok-put-in-Binary-3.ensures c.in_ok-put-in-Binary-4.ensures c.in_ok-put_expr-in-Binary-2.ensures.text c.put-in-Binary-5.ensures
 
 pub returns-in_ok-put_expr-in-Choice-3-clause-text : goal.returns-in_ok-put_expr-in-Choice-3-clause-text
 returns-in_ok-put_expr-in-Choice-3-clause-text t c =
-    choice_printed c.put-in-Choice-4.result _ _ _ _ _ _ _ _ _ _ _ _ (c.in-Choice.is ∙ ap (λ x. expr.Choice x c.in-Choice.yes c.in-Choice.no) (sym c.get-in-Choice.ensures) ∙ ap (λ x. expr.Choice c.get-in-Choice.result.now x c.in-Choice.no) (sym c.get-in-Choice-2.ensures) ∙ ap (λ x. expr.Choice c.get-in-Choice.result.now c.get-in-Choice-2.result.now x) (sym c.get-in-Choice-3.ensures)) c.in_ok-put-in-Choice.ensures c.in_ok-put_expr-in-Choice.ensures.text c.in_ok-put-in-Choice-2.ensures c.in_ok-put_expr-in-Choice-2.ensures.text
-    c.in_ok-put-in-Choice-3.ensures c.in_ok-put_expr-in-Choice-3.ensures.text c.put-in-Choice-4.ensures
+    choice_printed c.put-in-Choice-4.result _ _ _ _ _ _ _ _ _ _ _ _ _ _ _ c.in-Choice.is c.get-in-Choice.ensures c.get-in-Choice-2.ensures c.get-in-Choice-3.ensures
+    c.in_ok-put-in-Choice.ensures c.in_ok-put_expr-in-Choice.ensures.text c.in_ok-put-in-Choice-2.ensures c.in_ok-put_expr-in-Choice-2.ensures.text c.in_ok-put-in-Choice-3.ensures c.in_ok-put_expr-in-Choice-3.ensures.text c.put-in-Choice-4.ensures
