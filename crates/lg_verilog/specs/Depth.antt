@@ -11,7 +11,7 @@ abbrev pub greatest : List ℕ → ℕ
 greatest [] = 0
 greatest (n ∷ more) = max n (greatest more)
 
--- an expression without another inside has depth 1, any other one more than the deepest inside
+-- how deep an expression is: 1, and one more for each level of expressions inside
 abbrev pub form_depth : Expr-F ℕ → ℕ
 form_depth (Expr-F.Const c) = 1
 form_depth (Expr-F.Whole name) = 1

@@ -1,5 +1,5 @@
 -- The grammar of modules: which bytes are the text of which module. A module has many texts.
--- Source: IEEE 1364-2005 (2.1 white space, 3.5 numbers, 3.7 identifiers, 12.1 modules, 6.1 continuous assignments, 9.2 assignments in procedures, 5.1 operators), in a narrower form.
+-- Source: IEEE 1364-2005 (3.2 white space, 3.5 numbers, 3.7 identifiers, 12.1 modules, 6.1 continuous assignments, 9.2 assignments in procedures, 5.1 operators), in a narrower form.
 use Rattle.std.specs.Prelude.{◌≡◌, ℕ, ◌==◌, nat_le, Bool, true, false, ◌&&◌, ◌||◌, IsTrue, List, [], ◌∷◌, ◌++◌, map, Option, Some, None, codes}
 use Rattle.std.specs.Fmt.{decimal}
 use Rattle.std.specs.List.{flat_map, list_all, AllByRecursion}

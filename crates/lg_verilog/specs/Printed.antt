@@ -1,4 +1,4 @@
--- The printed layout of a module: each item has a line of its own.
+-- The printed layout of a module: one line a port, a declaration, an assign and a statement.
 -- Source: the subset of IEEE 1364-2005 that is emitted (12.1 modules, 6.1 continuous assignments, 9.2 assignments in procedures, 5.1 operators).
 use Rattle.std.specs.Prelude.{ℕ, List, [], ◌∷◌, ◌++◌, Option, Some, None, codes}
 use Rattle.std.specs.List.{flat_map}

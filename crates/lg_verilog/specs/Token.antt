@@ -1,4 +1,4 @@
--- The tokens of the subset. Source: IEEE 1364-2005, 2.1 (white space), 3.5 (numbers), 3.7 (identifiers), in a narrower form.
+-- The tokens of the subset. Source: IEEE 1364-2005, 3.2 (white space), 3.5 (numbers), 3.7 (identifiers), in a narrower form.
 use Rattle.std.specs.Prelude.{ℕ, ◌==◌, nat_le, Bool, true, false, ◌&&◌, ◌||◌, List, [], ◌∷◌, length, Option, Some, None, codes}
 use Rattle.std.specs.Char.{is_ascii_alphabetic, is_ascii_digit}
 use Rattle.std.specs.List.{list_all}
@@ -9,7 +9,7 @@ use Rattle.lg_text.specs.NameByte.{is_name_byte}
 abbrev pub is_digit_or_score : ℕ → Bool
 is_digit_or_score c = is_ascii_digit c || c == 95
 
--- a letter, then a digit or `_`, then letters, digits and `_`
+-- a letter with a digit or `_` behind it, and then up to 298 of these three
 abbrev pub is_long_name : List ℕ → Bool
 is_long_name [] = false
 is_long_name (c ∷ []) = false

@@ -18,7 +18,7 @@ impl From<AllocError> for Memory {
 /// Why `read_module` gives no module.
 #[derive(Clone, Copy, Debug, PartialEq, Eq)]
 pub enum ReadFault {
-    /// No module within the reader's limits has these bytes.
+    /// The bytes are a text of no module, or of one past the limits.
     NotSubset,
     /// There was no memory.
     Memory,

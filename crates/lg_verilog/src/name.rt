@@ -6,8 +6,8 @@ ghost use Rattle.lg_verilog.specs.Token.{is_name};
 use lg_text::Text;
 use std::marker::Model;
 
-/// A name of the subset: `clk`, or an ASCII letter, then a digit or `_`, then ASCII letters, digits
-/// and `_`; at most 300 characters. No reserved word has this form.
+/// A name as emitted modules have them: `clk`, or a letter with a digit or `_` behind it and then up to
+/// 298 more letters, digits and `_`, all of ASCII.
 #[derive(Debug, Drop)]
 pub struct Name {
     text: Text,

@@ -12,10 +12,19 @@ fn printed(alloc: Global, text: &str) -> Result<Vec<u8>, Fail> {
     Ok(print(alloc, &module).ok().ok_or("memory is there")?)
 }
 
-// Whether a module with this declaration is read.
+// Whether the bytes are read, and not refused.
+fn is_read(alloc: Global, bytes: &[u8]) -> Result<bool, AllocError> {
+    match read_module(alloc, bytes) {
+        Ok(_) => Ok(true),
+        Err(ReadFault::NotSubset) => Ok(false),
+        Err(ReadFault::Memory) => Err(AllocError),
+    }
+}
+
+// Whether a module with this declaration or assign is read.
 fn declares(alloc: Global, decl: &str) -> Result<bool, AllocError> {
     let text = format!(in alloc; "module c_main();{decl}endmodule")?;
-    Ok(read_module(alloc, text.as_str().as_bytes()).is_ok())
+    is_read(alloc, text.as_str().as_bytes())
 }
 
 // Whether a module with an expression that is so deep is read.
@@ -71,8 +80,7 @@ fn module_ends_at_its_last_word(rt: HostRuntime) -> Result<(), Fail> {
         ("module c_main();endmodule;", false),
         ("\u{feff}module c_main();endmodule", false),
     ] {
-        let is_read = read_module(rt.alloc(), text.as_bytes()).is_ok();
-        assert_eq!(rt; is_read, want, "{text}");
+        assert_eq!(rt; is_read(rt.alloc(), text.as_bytes())?, want, "{text}");
     }
     Ok(())
 }
@@ -84,6 +92,10 @@ fn tokens_are_kept_apart(rt: HostRuntime) -> Result<(), Fail> {
         ("wirex0;", false),
         ("wire // a\nx0;", false),
         ("reg x0=8 'd5;", false),
+        ("wire k;", false),
+        ("assign o_Y=(i_A< <i_B);", false),
+        ("assign o_Y={i_A};", false),
+        ("assign o_Y=((i_A&i_B));", false),
     ] {
         assert_eq!(rt; declares(rt.alloc(), decl)?, want, "{decl}");
     }
@@ -114,5 +126,17 @@ fn limits_are_kept(rt: HostRuntime) -> Result<(), Fail> {
     assert!(rt; !reads_depth(alloc, 101)?);
     assert!(rt; reads_name(alloc, 300)?);
     assert!(rt; !reads_name(alloc, 301)?);
+    Ok(())
+}
+
+#[test]
+fn the_length_is_bounded(rt: HostRuntime) -> Result<(), Fail> {
+    let module = "module c_main();endmodule";
+    let mut text = vec![in rt.alloc(); b' '; GREATEST_LENGTH - 25]?;
+    text.extend_from_slice(module.as_bytes())?;
+    assert_eq!(rt; text.len(), GREATEST_LENGTH);
+    assert!(rt; is_read(rt.alloc(), text.as_slice())?);
+    text.push(b' ')?;
+    assert!(rt; !is_read(rt.alloc(), text.as_slice())?);
     Ok(())
 }
