@@ -6,3 +6,4 @@ pub mod RowLemmas
 pub mod GrowingLemmas
 pub mod ContentsLemmas
 pub mod KindLemmas
+mod SheetLemmas

@@ -1,6 +1,8 @@
 -- What the records of a port table replace: a later one replaces an earlier one.
-use Rattle.std.specs.Prelude.{ℕ, ℤ, Bool, ◌&&◌, List, [], ◌∷◌, Option, Some, None, if◌then◌else◌}
+use Rattle.std.specs.Prelude.{ℕ, ℤ, ◌^◌, ◌-◌, min, Bool, ◌&&◌, List, [], ◌∷◌, Option, Some, None, if◌then◌else◌}
+use Rattle.std.specs.List.{filter_map}
 use Rattle.std.specs.Option.{option_or}
+use Rattle.std.specs.Set.{distinct_count}
 use Rattle.std.specs.Str.{bytes_eq}
 use Rattle.lg_parts.specs.declared.kind.Kind.{Kind}
 use Rattle.lg_parts.specs.declared.port_table.Record.{Record}
@@ -42,3 +44,16 @@ circuit_in sheet pin _ = None
 -- the place that the last record for the pin gives it at the uses of the sheet
 abbrev pub sheet_row : List Record → List ℕ → List ℕ → Option (ℤ × ℤ)
 sheet_row records sheet pin = last_given (circuit_in sheet pin) records
+
+-- the pin that a record moves at the uses of a sheet
+abbrev pub pin_in : List ℕ → Record → Option (List ℕ)
+pin_in sheet (Circuit of name dx dy) = if bytes_eq of sheet then Some name else None
+pin_in sheet _ = None
+
+-- the pins that the records move at the uses of a sheet, one a record
+abbrev pub pins_of : List Record → List ℕ → List (List ℕ)
+pins_of records sheet = filter_map (pin_in sheet) records
+
+-- how many different pins the records move at the uses of a sheet, or the greatest count of 32 bits where there are more
+abbrev pub sheet_rows : List Record → List ℕ → ℕ
+sheet_rows records sheet = min (distinct_count bytes_eq (pins_of records sheet)) (2 ^ 32 - 1)

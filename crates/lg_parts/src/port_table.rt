@@ -2,7 +2,9 @@
 
 ghost use Rattle.std.specs.Prelude.{ℕ, List, ◌≡◌, [], option_map};
 ghost use denote.Bor.{Bor};
-ghost use Rattle.lg_parts.specs.PortTable.{default_in, place_in, circuit_in, default_of, place_of, sheet_row};
+ghost use Rattle.std.specs.List.{list_any};
+ghost use Rattle.std.specs.Str.{bytes_eq};
+ghost use Rattle.lg_parts.specs.PortTable.{default_in, place_in, circuit_in, pin_in, pins_of, default_of, place_of, sheet_row, sheet_rows};
 
 use crate::kind::{Kind, is_same};
 use lg_text::Text;
@@ -69,6 +71,16 @@ impl Record {
         }
     }
 
+    // The pin that the record moves at the uses of a sheet.
+    fn pin_of(&self, sheet: &str) -> Option<&str>
+        ensures { option_map (λ (t : Bor (List ℕ)). t.now) result ≡ pin_in sheet.now self.now }
+    {
+        match self {
+            Record::Circuit { sheet: of, pin, .. } if of.as_str() == sheet => Some(pin.as_str()),
+            _ => None,
+        }
+    }
+
     // The place that the record gives a port of a kind.
     fn place_of(&self, kind: Kind, name: &str) -> Option<(i16, i16)>
         ensures { result ≡ place_in kind name.now self.now }
@@ -112,6 +124,23 @@ impl PortTable {
         last
     }
 
+    /// How many different pins of the sheet have a record, which is 2^32 - 1 where they are more.
+    pub fn sheet_rows(&self, sheet: &str) -> u32
+        ensures { result ≡ sheet_rows self.now.records sheet.now }
+    {
+        let mut count: u32 = 0;
+        let mut rest = self.records.as_slice();
+        while let Some((record, later)) = rest.split_first() {
+            if let Some(pin) = record.pin_of(sheet) {
+                if !is_moved(later, sheet, pin) {
+                    count = count.saturating_add(1);
+                }
+            }
+            rest = later;
+        }
+        count
+    }
+
     /// The offset that the last record for this pin of the sheet gives it at the sheet's uses, where there is one.
     pub fn sheet_row(&self, sheet: &str, pin: &str) -> Option<(i32, i32)>
         ensures { result ≡ sheet_row self.now.records sheet.now pin.now }
@@ -142,4 +171,18 @@ impl PortTable {
         }
         last
     }
+}
+
+// Whether one of the records moves the pin at the uses of the sheet.
+fn is_moved(records: &[Record], sheet: &str, pin: &str) -> bool
+    ensures { result ≡ list_any (bytes_eq pin.now) (pins_of records.now sheet.now) }
+{
+    for record in records {
+        if let Some(name) = record.pin_of(sheet) {
+            if pin == name {
+                return true;
+            }
+        }
+    }
+    false
 }

@@ -137,4 +137,5 @@ fn the_printed_table_replaces_nothing(rt: HostRuntime) {
     let table = PortTable::printed(rt.alloc());
     assert!(rt; table.default_of(Kind::Pin, "width").is_none());
     assert!(rt; table.sheet_row("main", "A").is_none());
+    assert!(rt; table.sheet_rows("main") == 0);
 }
