@@ -7,3 +7,6 @@ pub mod GrowingLemmas
 pub mod ContentsLemmas
 pub mod KindLemmas
 mod SheetLemmas
+mod CellLemmas
+mod FormLemmas
+mod TableLemmas

@@ -37,3 +37,7 @@ abbrev pub RefusesKind : List ℕ → List ℕ → PartFault → Type 0
 RefusesKind library name fault =
     (fault ≡ Memory)
     ⊎ (((is_accepted library ≡ false) × (fault ≡ OutsideLibrary library)) ⊎ (IsUnknown library name × (fault ≡ UnknownKind name)))
+
+-- the kind has the name, and no other has it
+abbrev pub IsOnly : List ℕ → Kind → Type 0
+IsOnly name kind = (name_of kind ≡ name) × ((other : Kind) → name_of other ≡ name → other ≡ kind)

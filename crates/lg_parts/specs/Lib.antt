@@ -1,4 +1,5 @@
 pub mod Attrs
+pub mod Cells
 pub mod Contents
 pub mod Given
 pub mod Judged
@@ -10,3 +11,4 @@ pub mod Ranges
 pub mod Rows
 pub mod SplitterEnds
 pub mod Table
+pub mod TableFile

@@ -1,10 +1,11 @@
 //! The kinds of components and their names.
 
-ghost use Rattle.std.specs.Prelude.{List, ℕ, ◌≡◌, find, unwrap_or, IfOk, IfErr, option_map};
+ghost use Rattle.std.specs.Prelude.{List, ℕ, ◌≡◌, ◌≢◌, find, unwrap_or, IfOk, IfErr, option_map, MatchOption};
+ghost use Rattle.lg_parts.specs.declared.kind.Kind.{Kind as KindSelf};
 ghost use Rattle.std.specs.List.{list_any};
 ghost use Rattle.std.specs.Str.{bytes_eq};
 ghost use denote.Bor.{Bor};
-ghost use Rattle.lg_parts.specs.Kinds.{is_accepted, library_of, IsKind, RefusesKind};
+ghost use Rattle.lg_parts.specs.Kinds.{is_accepted, library_of, IsKind, IsOnly, RefusesKind};
 ghost use Rattle.lg_parts.specs.PortTable.{is_same};
 ghost use Rattle.lg_parts.specs.Table.{name_of};
 
@@ -132,7 +133,7 @@ pub fn kind_of(alloc: Global, desc: Option<&str>, name: &str) -> Result<Kind, Pa
         let lib = Text::copy_of(alloc, library)?;
         return Err(PartFault::OutsideLibrary { lib });
     }
-    match kind_named(&KINDS, name) {
+    match find_kind(name) {
         Some(kind) => Ok(kind),
         None => {
             let name = Text::copy_of(alloc, name)?;
@@ -156,6 +157,15 @@ fn is_accepted(library: &str) -> bool
             "#Base",
         ],
     )
+}
+
+// The kind of this name, which is the only one.
+pub fn find_kind(name: &str) -> Option<Kind>
+    ensures { MatchOption result
+        ((kind : KindSelf) → name_of kind ≢ name.now)
+        (λ kind. IsOnly name.now kind) }
+{
+    kind_named(&KINDS, name)
 }
 
 // The first of some kinds that has this name.

@@ -4,6 +4,7 @@
 mod arithmetic;
 mod attributes;
 mod attrs;
+mod cells;
 mod contents;
 mod entry;
 mod fan;
@@ -25,6 +26,7 @@ mod size;
 mod splitter;
 mod splitter_place;
 mod table;
+mod table_file;
 mod wiring;
 
 pub use attrs::Attrs;
@@ -33,6 +35,7 @@ pub use kind::{Kind, kind_name, kind_of};
 pub use listing::ports;
 pub use port::{Loose, Port, Side};
 pub use port_table::PortTable;
+pub use table_file::read_port_table;
 
 #[cfg(test)]
 mod tests;

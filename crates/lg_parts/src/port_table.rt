@@ -113,6 +113,13 @@ impl PortTable {
         }
     }
 
+    // The table of these records.
+    pub fn of_records(records: Items<Record>) -> PortTable
+        ensures { result.records ≡ records }
+    {
+        PortTable { records }
+    }
+
     /// The value of the last record that gives this attribute of the kind a default, where there is one.
     pub fn default_of(&self, kind: Kind, attr: &str) -> Option<&str>
         ensures { option_map (λ (t : Bor (List ℕ)). t.now) result ≡ default_of self.now.records kind attr.now }
