@@ -1,12 +1,11 @@
 //! Reading a port table.
 
-ghost use Rattle.std.specs.Prelude.{◌≡◌, IfOk, IfErr, MatchOption};
+ghost use Rattle.std.specs.Prelude.{◌≡◌, IfOk, IfErr, MatchOption, codes};
 ghost use Rattle.csv.specs.Reading.{error_kind};
 ghost use Rattle.csv.specs.Records.{fields_of};
 ghost use Rattle.lg_parts.specs.declared.port_table.Record.{Record as RecordSelf};
 ghost use Rattle.lg_parts.specs.Cells.{cells};
 ghost use Rattle.lg_parts.specs.Kinds.{IsOnly};
-ghost use Rattle.std.specs.Prelude.{codes};
 ghost use Rattle.lg_parts.specs.TableFile.{fault_at, HasForm, IsTableFile, RefusesTable};
 
 use crate::cells::{
@@ -22,7 +21,8 @@ use std::alloc::{AllocError, Global};
 
 /// The port table that a file's bytes are.
 ///
-/// `BadTable` names the first record out of form, 0 being the header, and 2^32 - 1 any later one than that.
+/// `BadTable` names the first record out of form, 0 being the header; a number past 2^32 - 1 is answered as that. Without
+/// a record, the header is out of form. `Memory` comes where there is no memory.
 pub fn read_port_table(alloc: Global, bytes: &[u8]) -> Result<PortTable, PartFault>
     ensures read { IfOk result (λ table. IsTableFile bytes.now table.records) }
     ensures refused { IfErr result (λ fault. RefusesTable bytes.now fault) }
