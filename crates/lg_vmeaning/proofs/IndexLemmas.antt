@@ -1,19 +1,20 @@
 -- What an index of a module's names tells is what the module declares.
-use Rattle.std.proofs.Common.{◌≡◌, ℕ, ◌≤◌, Bool, true, false, cond, ◌&&◌, List, [], ◌∷◌, map, Option, Some, None, refl, sym, subst, ◌∙◌, arith, rules}
+use Rattle.std.proofs.Common.{◌≡◌, ℕ, ◌+◌, ◌≤◌, Bool, true, false, cond, ◌&&◌, List, [], ◌∷◌, map, Option, Some, None, refl, sym, subst, ◌∙◌, arith, rules}
 use Rattle.std.specs.Prelude.{nat_le, option_map, unwrap_or}
 use Rattle.std.specs.List.{list_all}
 use Rattle.std.specs.Map.{lookup}
 use Rattle.std.specs.Str.{bytes_eq}
 use Rattle.std.proofs.lemmas.Bool.{and_parts}
 use Rattle.std.proofs.lemmas.List.Folds.{list_all-append, list_all-map}
+use Rattle.lg_verilog.specs.declared.module.Assign.{Assign}
 use Rattle.lg_verilog.specs.declared.module.Module.{Module}
 use Rattle.lg_vmeaning.specs.declared.names.Sort.{Sort}
 use Rattle.lg_vmeaning.specs.declared.names.Sort.TheVariants as sort
 use Rattle.lg_vmeaning.specs.declared.names.Thing.{Thing}
 use Rattle.lg_vmeaning.specs.declared.names.Names.{Names}
 use Rattle.lg_vmeaning.specs.Meaning.{range_width}
-use Rattle.lg_vmeaning.specs.Things.{things, port_thing, decl_thing, sort_of, width_of}
-use Rattle.lg_vmeaning.specs.Rules.{most_bits, is_narrow, are_narrow, first_false, are_fitting, are_used, are_assigned_once, are_kept_once, are_indexed}
+use Rattle.lg_vmeaning.specs.Things.{is_assignable, things, port_thing, decl_thing, sort_of, width_of}
+use Rattle.lg_vmeaning.specs.Rules.{most_bits, is_narrow, are_narrow, first_false, are_fitting, are_used, are_assigned_once, are_kept_once, are_indexed, are_named, are_divided_safely, first_broken, all_differ, assigned, is_of, has_each, is_among}
 use Rattle.lg_vmeaning.specs.Known.{sort_under, width_under, KnowsThings, AreNarrow}
 
 pub sort_is : (m : Module) (index : Names) → KnowsThings (things m) index → sort_under index ≡ sort_of m
@@ -97,3 +98,20 @@ third_wide c d e f g p q r = rw (p, q, r) refl
 
 pub later : {a b n : Bool} (c d e f g : Bool) → a ≡ true → b ≡ true → n ≡ true → first_false 3 (c ∷ d ∷ e ∷ f ∷ g ∷ []) ≡ first_false 1 (a ∷ b ∷ (n && c) ∷ d ∷ e ∷ f ∷ g ∷ [])
 later c d e f g p q r = rw (p, q, r) refl
+
+-- where no test fails each holds
+none_first : (n : ℕ) (a : Bool) (more : List Bool) → first_false n (a ∷ more) ≡ None → (a ≡ true) × (first_false (n + 1) more ≡ None)
+none_first n true more e = (refl, e)
+none_first n false more e = absurd (cc e)
+
+-- in a module that keeps the rules no name is assigned twice
+pub assigned_differ : (m : Module) → first_broken m ≡ None → all_differ (assigned m) ≡ true
+assigned_differ m e =
+    let last = are_kept_once (sort_of m) m ∷ are_divided_safely m ∷ are_indexed (sort_of m) (width_of m) m ∷ [] in
+    let once = are_assigned_once (sort_of m) m in
+    let wide = are_narrow m && are_fitting (sort_of m) (width_of m) m in
+    let one = none_first 1 (are_named m) (are_used (sort_of m) m ∷ wide ∷ once ∷ last) e in
+    let two = none_first 2 (are_used (sort_of m) m) (wide ∷ once ∷ last) one.1 in
+    let three = none_first 3 wide (once ∷ last) two.1 in
+    let four = none_first 4 once last three.1 in
+    (and_parts (all_differ (assigned m)) (list_all (λ (a : Assign). is_of is_assignable (sort_of m) a.name) m.assigns && has_each is_assignable (λ name. is_among name (assigned m)) m) four.0).0

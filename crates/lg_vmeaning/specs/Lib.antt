@@ -4,3 +4,6 @@ pub mod InOrder
 pub mod Inside
 pub mod Rules
 pub mod Known
+pub mod Depends
+pub mod Places
+pub mod Valid

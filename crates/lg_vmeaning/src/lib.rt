@@ -2,6 +2,7 @@
 #![tactic(auto)]
 
 mod broken;
+mod depends;
 mod divisors;
 mod fault;
 mod fitting;
@@ -13,4 +14,9 @@ mod rules;
 #[cfg(test)]
 mod tests;
 mod uses;
+mod valid_module;
+mod validity;
 mod widths;
+
+pub use valid_module::Valid;
+pub use validity::{MeanFault, valid};

@@ -1,15 +1,26 @@
 //! Modules that keep the rules, and modules that break one alone, or two at once.
 
-use crate::broken::first_broken;
+use crate::{MeanFault, valid};
+use lg_text::Text;
 use lg_verilog::read_module;
-use std::alloc::Global;
+use std::alloc::{AllocError, Global};
 use std::process::Abort;
 use std::test::Fail;
 
+// Why the module of a text is not valid: the rule that it breaks, or 0 and the name that depends on itself.
+fn judged(rt: &impl Abort, alloc: Global, text: &str) -> Result<Option<(u32, Text)>, Fail> {
+    let module = read_module(alloc, text.as_bytes()).ok().expect(rt, text);
+    match valid(alloc, module) {
+        Ok(_) => Ok(None),
+        Err(MeanFault::NotValid { rule }) => Ok(Some((rule, Text::copy_of(alloc, "")?))),
+        Err(MeanFault::Cyclic { wire }) => Ok(Some((0, wire))),
+        Err(MeanFault::Memory) => Err(Fail::from(AllocError)),
+    }
+}
+
 // The first rule that the module of a text breaks.
 fn broken(rt: &impl Abort, alloc: Global, text: &str) -> Result<Option<u32>, Fail> {
-    let module = read_module(alloc, text.as_bytes()).ok().expect(rt, text);
-    Ok(first_broken(alloc, &module)?)
+    Ok(judged(rt, alloc, text)?.map(|judged| judged.0))
 }
 
 #[test]
@@ -84,6 +95,31 @@ fn modules_that_break_a_rule(rt: HostRuntime) -> Result<(), Fail> {
     ];
     for (text, rule) in cases {
         assert_eq!(rt; broken(&rt, rt.alloc(), text)?, Some(rule), "{text}");
+    }
+    Ok(())
+}
+
+#[test]
+fn names_that_depend_on_themselves(rt: HostRuntime) -> Result<(), Fail> {
+    let alloc = rt.alloc();
+    let cases = [
+        (
+            "module c_(output wire o_Z); assign o_Z = o_Z; endmodule",
+            "o_Z",
+        ),
+        (
+            "module c_(output wire o_Z); wire w_0; wire w_1; assign o_Z = w_0; assign w_1 = (~w_0); assign w_0 = w_1; endmodule",
+            "w_1",
+        ),
+        (
+            "module c_(output wire o_Z); wire [1:0] w_0; assign w_0 = {o_Z, 1'd0}; assign o_Z = (1'd0 ? w_0[0] : 1'd1); endmodule",
+            "w_0",
+        ),
+    ];
+    for (text, want) in cases {
+        let judged = judged(&rt, alloc, text)?.expect(&rt, text);
+        assert_eq!(rt; judged.0, 0);
+        assert_eq!(rt; judged.1.as_str(), want, "{text}");
     }
     Ok(())
 }
