@@ -1,4 +1,5 @@
--- What the records of a port table replace: a later one replaces an earlier one.
+-- What the records of a port table replace: of those for one thing the last counts. Source: this project's file of
+-- places, delays and defaults.
 use Rattle.std.specs.Prelude.{ℕ, ℤ, ◌^◌, ◌-◌, min, Bool, ◌&&◌, List, [], ◌∷◌, Option, Some, None, if◌then◌else◌}
 use Rattle.std.specs.List.{filter_map}
 use Rattle.std.specs.Option.{option_or}
@@ -14,7 +15,7 @@ abbrev pub last_given : {A B : Type 0} → (A → Option B) → List A → Optio
 last_given f [] = None
 last_given f (x ∷ xs) = option_or (last_given f xs) (f x)
 
--- two kinds have one name, as no two kinds have
+-- two kinds are the same, told by their names, which differ
 abbrev pub is_same : Kind → Kind → Bool
 is_same a b = bytes_eq (name_of a) (name_of b)
 

@@ -1,6 +1,6 @@
 -- The table of kinds: the name, the attributes with their ranges and defaults, the ports with their widths, places and
--- loose values, and the delay of each. Source: the library reference of Logisim-evolution; the places and the delays are
--- this project's.
+-- loose values, and the form of the delay of each. Source of the kinds: the library reference of Logisim-evolution. The
+-- names and values of attributes, their ranges and defaults, the places and the delays are this project's.
 use Rattle.std.specs.Prelude.{ℕ, ℤ, pos, neg_ℤ, List, [], ◌∷◌, Some, None, codes}
 use Rattle.lg_parts.specs.declared.kind.Kind.{Kind}
 use Rattle.lg_parts.specs.declared.kind.Kind.TheVariants.{Pin, Tunnel, Splitter, Clock, Constant, Power, Ground, PullResistor, BitExtender, NotGate, Buffer, AndGate, OrGate, NandGate, NorGate, XorGate, XnorGate, OddParity, EvenParity, ControlledBuffer, ControlledInverter, Multiplexer, Demultiplexer, Decoder, PriorityEncoder, BitSelector, Adder, Subtractor, Multiplier, Divider, Negator, Comparator, Shifter, BitAdder, DFlipFlop, TFlipFlop, JkFlipFlop, SrFlipFlop, Register, Counter, ShiftRegister, Rom, Ram, Probe, Led, Text, HexDisplay, SegmentDisplay}

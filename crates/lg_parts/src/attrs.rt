@@ -7,7 +7,7 @@ ghost use Rattle.lg_parts.specs.Attrs.{value_under};
 use lg_text::Text;
 use sqlite_items::Items;
 
-/// Names and values, in file order. Of one name twice the first counts.
+/// Names and values, in file order. A name may stand twice: its first value is the one that is read.
 #[derive(Debug, Drop)]
 pub struct Attrs {
     pub list: Items<(Text, Text)>,

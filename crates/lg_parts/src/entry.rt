@@ -101,7 +101,7 @@ pub enum Delay {
     // It is no part.
     None,
     Instants(u8),
-    // `width` and 2.
+    // 2 more than `width`.
     Sum,
     // `width` times two more than `width`, at most 255.
     Product,

@@ -15,7 +15,7 @@ use crate::table::entry;
 use lg_text::Text;
 use std::alloc::Global;
 
-/// A kind of component, named as in the drawing tool without spaces and hyphens.
+/// A kind of component. `kind_name` gives its name in the drawing tool.
 #[derive(Clone, Copy, Debug, PartialEq, Eq)]
 pub enum Kind {
     Pin,
@@ -122,7 +122,7 @@ const KINDS: [Kind; 48] = [
 
 /// The kind that has a name in a library with this description; `None` stands for a library without one.
 ///
-/// A kind is found by its name in each of the accepted libraries. `OutsideLibrary` names the description where it is not
+/// Which of the accepted libraries it is does not matter. `OutsideLibrary` names the description where it is not
 /// accepted, and is empty where there is none; else `UnknownKind` names what no kind is called.
 pub fn kind_of(alloc: Global, desc: Option<&str>, name: &str) -> Result<Kind, PartFault>
     ensures found { IfOk result (λ kind. IsKind (library_of desc.entry) name.now kind) }

@@ -24,8 +24,8 @@ use std::alloc::{AllocError, Global};
 /// The ports of a component of a kind with these attributes, inputs before outputs, turned as it faces.
 ///
 /// An attribute that is left out has the value that `table` gives it, and else the one of the table of kinds; a port
-/// that `table` moves stands where it says. `BadAttr` names the first attribute, in the order of the kind's table with
-/// `facing` first, whose value is out of its range.
+/// that `table` moves stands where it says. A value out of its range is refused: `BadAttr` has the first such one, with
+/// `facing` before the others and these in the order of the kind's entry.
 pub fn ports(
     alloc: Global,
     kind: Kind,

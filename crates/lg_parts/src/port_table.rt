@@ -97,7 +97,9 @@ impl Record {
     }
 }
 
-/// Records that replace what the table of kinds says; a later record replaces an earlier one.
+/// Records that replace what the table of kinds says. Of records for one thing the last counts.
+///
+/// Source: the file of places, delays and defaults of this project.
 #[derive(Debug, Drop)]
 pub struct PortTable {
     records: Items<Record>,
@@ -114,7 +116,7 @@ impl PortTable {
     }
 
     // The table of these records.
-    pub fn of_records(records: Items<Record>) -> PortTable
+    pub(crate) fn of_records(records: Items<Record>) -> PortTable
         ensures { result.records ≡ records }
     {
         PortTable { records }
@@ -169,7 +171,7 @@ impl PortTable {
     }
 
     // The place of the last record that moves the port of the kind, where there is one.
-    pub fn place_of(&self, kind: Kind, port: &str) -> Option<(i16, i16)>
+    pub(crate) fn place_of(&self, kind: Kind, port: &str) -> Option<(i16, i16)>
         ensures { result ≡ place_of self.now.records kind port.now }
     {
         let mut last = None;

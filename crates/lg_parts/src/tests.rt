@@ -24,12 +24,23 @@ fn stand(ports: &[Port], rows: &[(i32, i32, u32)]) -> bool {
             && port.width == row.2)
 }
 
-// Whether a component has ports at these places, with these widths.
+// Whether a component has ports at these places, with these widths, where nothing is replaced.
 fn has_ports(alloc: Global, kind: Kind, pairs: &[(&str, &str)], rows: &[(i32, i32, u32)]) -> bool {
+    has_ports_by(alloc, kind, pairs, &PortTable::printed(alloc), rows)
+}
+
+// Whether a component has ports at these places, with these widths, by a port table.
+fn has_ports_by(
+    alloc: Global,
+    kind: Kind,
+    pairs: &[(&str, &str)],
+    table: &PortTable,
+    rows: &[(i32, i32, u32)],
+) -> bool {
     let Ok(attrs) = attrs_of(alloc, pairs) else {
         return false;
     };
-    match ports(alloc, kind, &attrs, &PortTable::printed(alloc)) {
+    match ports(alloc, kind, &attrs, table) {
         Ok(list) => stand(list.as_slice(), rows),
         Err(_) => false,
     }
@@ -161,10 +172,11 @@ fn a_later_record_replaces_an_earlier_one(rt: HostRuntime) {
 #[test]
 fn a_port_stands_where_the_last_record_says(rt: HostRuntime) {
     let alloc = rt.alloc();
-    let text = "row,name,item,a,b\nport,NOT Gate,in,-50,5\ndelay,NOT Gate,,255,\n";
+    let text =
+        "row,name,item,a,b\nport,NOT Gate,in,-90,0\ndelay,NOT Gate,,255,\nport,NOT Gate,in,-50,5\n";
     let table = read_port_table(alloc, text.as_bytes());
     assert!(rt;
-        matches!(&table, Ok(table) if table.place_of(Kind::NotGate, "in") == Some((-50, 5)))
+        matches!(&table, Ok(table) if has_ports_by(alloc, Kind::NotGate, &[("facing", "north")], table, &[(5, 50, 1), (0, 0, 1)]))
     );
 }
 
@@ -174,6 +186,7 @@ fn the_first_record_out_of_form_is_named(rt: HostRuntime) {
     assert!(rt; is_bad(alloc, "", 0));
     assert!(rt; is_bad(alloc, "row,name,item,b,a\n", 0));
     assert!(rt; is_bad(alloc, "row,name,item,a,b\ndelay,Adder,,0,\n", 1));
+    assert!(rt; is_bad(alloc, "row,name,item,a,b\ndelay,Adder,,256,\n", 1));
     assert!(rt;
         is_bad(
             alloc,

@@ -37,7 +37,7 @@ decl_line (decl.Wire range name) = (name, range_width range)
 decl_line (decl.Reg range name start) = (name, range_width range)
 decl_line (decl.Memory range name last) = (name, range_width range)
 
--- all that a module declares: its ports, then its wires
+-- all that a module declares, the ports first; a memory has the width of its words
 abbrev pub declared : Module → List Line
 declared m = map port_line m.ports ++ map decl_line m.decls
 
@@ -64,8 +64,7 @@ abbrev pub number_of_test : Bool → ℕ
 number_of_test true = 1
 number_of_test false = 0
 
--- the number of an operation between numbers of this width, modulo 2 to the width; `==` and `<` are unsigned, and a shift by
--- the width or more gives 0
+-- the number of an operation between numbers of this width
 abbrev pub operator_value : Operator → ℕ → ℕ → ℕ → ℕ
 operator_value operator.And width a b = bit_and a b
 operator_value operator.Or width a b = bit_or a b
@@ -110,7 +109,7 @@ is_wire (decl.Wire range name) = true
 is_wire (decl.Reg range name start) = false
 is_wire (decl.Memory range name last) = false
 
--- the module has neither registers nor memories, and nothing happens at an edge
+-- the module has wires alone, and neither an init nor an edge
 pub record IsCombinational (m : Module) : Type 0 where
   pub wires : AllByRecursion (λ (d : Decl). IsTrue (is_wire d)) m.decls
   pub no_init : m.init ≡ None
@@ -118,7 +117,7 @@ pub record IsCombinational (m : Module) : Type 0 where
 
 -- the valuation gives the inputs these numbers, and makes every `assign` an equation
 pub record IsSolution (m : Module) (numbers : List ℕ) (value : Valuation) : Type 0 where
-  -- each declared name has a number below 2 to its width
+  -- each declared name has a number that its width can hold
   pub within : AllByRecursion (λ (l : Line). value l.0 < 2 ^ l.1) (declared m)
   pub inputs : map value (input_names m) ≡ numbers
   pub equations : AllByRecursion (λ (a : Assign). value a.name ≡ value_of m value a.value) m.assigns

@@ -96,10 +96,17 @@ fills_of m = unwrap_or (option_map (λ (i : Init). i.fills) m.init) []
 abbrev pub words_of : Module → List Word
 words_of m = unwrap_or (option_map (λ (i : Init). i.words) m.init) []
 
-abbrev pub are_used : (List ℕ → Option Sort) → Module → Bool
-are_used sort m =
+-- nothing but an input is called as the clock is
+abbrev pub is_no_clock : Decl → Bool
+is_no_clock d = not (bytes_eq (decl_thing d).0 (codes "clk"))
+
+abbrev pub all_use : (List ℕ → Option Sort) → Module → Bool
+all_use sort m =
     list_all (assign_uses sort) m.assigns && (list_all (stmt_uses sort) (stmts_of m)
     && (list_all (λ (f : Fill). is_of is_memory sort f.name) (fills_of m) && list_all (λ (w : Word). is_of is_memory sort w.name) (words_of m)))
+
+abbrev pub are_used : (List ℕ → Option Sort) → Module → Bool
+are_used sort m = list_all is_no_clock m.decls && all_use sort m
 
 -- 3: widths and places fit
 
@@ -174,8 +181,10 @@ is_width width wanted e = unwrap_or (option_map (λ (w : ℕ). w == wanted) (exp
 abbrev pub constant_of : (List ℕ → ℕ) → List ℕ → Constant → Bool
 constant_of width name c = constant_fits c && c.width == width name
 
-abbrev pub assign_fits : (List ℕ → ℕ) → Assign → Bool
-assign_fits width a = is_width width (width a.name) a.value
+-- a memory as a whole has no width, so what an `assign` would give it fits in any
+abbrev pub assign_fits : (List ℕ → Option Sort) → (List ℕ → ℕ) → Assign → Bool
+assign_fits sort width a =
+    if is_of is_memory sort a.name then is_some (expr_width width a.value) else is_width width (width a.name) a.value
 
 abbrev pub stmt_fits : (List ℕ → ℕ) → Stmt → Bool
 stmt_fits width (stmt.Store name value) = is_width width (width name) value
@@ -204,7 +213,7 @@ fill_fits width f = constant_of width f.name f.value
 abbrev pub are_fitting : (List ℕ → Option Sort) → (List ℕ → ℕ) → Module → Bool
 are_fitting sort width m =
     list_all (decl_fits width) m.decls && (list_all (fill_fits width) (fills_of m) && (list_all (word_fits sort width) (words_of m)
-    && (list_all (assign_fits width) m.assigns && list_all (stmt_fits width) (stmts_of m))))
+    && (list_all (assign_fits sort width) m.assigns && list_all (stmt_fits width) (stmts_of m))))
 
 -- each thing of a sort is one of these
 abbrev pub has_each : (Sort → Bool) → (List ℕ → Bool) → Module → Bool

@@ -1,6 +1,6 @@
 -- What a module declares: its ports, wires, registers and memories, each with its name, its sort and its width.
 -- Source: IEEE 1364-2005, 12.3 (ports), 4.2 (nets and variables), 4.9 (arrays).
-use Rattle.std.specs.Prelude.{ℕ, Bool, true, false, List, ◌++◌, map, filter, Option, option_map, unwrap_or, codes, if◌then◌else◌}
+use Rattle.std.specs.Prelude.{ℕ, Bool, true, false, List, ◌++◌, map, Option, option_map, unwrap_or, codes, if◌then◌else◌}
 use Rattle.std.specs.Map.{lookup}
 use Rattle.std.specs.Str.{bytes_eq}
 use Rattle.lg_verilog.specs.declared.module.Direction.{Direction}
@@ -45,18 +45,6 @@ sort_of m name = option_map (λ (t : Thing). t.sort) (thing_of m name)
 -- the width of a name, and 0 of one that is not declared
 abbrev pub width_of : Module → List ℕ → ℕ
 width_of m name = unwrap_or (option_map (λ (t : Thing). range_width t.high) (thing_of m name)) 0
-
--- the names of a sort, in order
-abbrev pub names_of : (Sort → Bool) → Module → List (List ℕ)
-names_of is m = map (λ (t : List ℕ × Thing). t.0) (filter (λ (t : List ℕ × Thing). is t.1.sort) (things m))
-
-abbrev pub is_input : Sort → Bool
-is_input sort.Input = true
-is_input _ = false
-
-abbrev pub is_output : Sort → Bool
-is_output sort.Output = true
-is_output _ = false
 
 abbrev pub is_reg : Sort → Bool
 is_reg sort.Reg = true

@@ -46,7 +46,7 @@ impl Names {
 
     fn assigns_fit(&self, assigns: &[Assign]) -> bool
         requires { AreNarrow self.now }
-        ensures { result ≡ list_all (assign_fits (width_under self.now)) assigns.now }
+        ensures { result ≡ list_all (assign_fits (sort_under self.now) (width_under self.now)) assigns.now }
     {
         assigns.iter().all(|assign| self.assign_fits(assign))
     }
@@ -102,9 +102,13 @@ impl Names {
 
     fn assign_fits(&self, assign: &Assign) -> bool
         requires { AreNarrow self.now }
-        ensures { result ≡ assign_fits (width_under self.now) assign.now }
+        ensures { result ≡ assign_fits (sort_under self.now) (width_under self.now) assign.now }
     {
-        self.is_width(self.width_of(&assign.name), &assign.value)
+        if self.is_memory(&assign.name) {
+            self.has_width(&assign.value)
+        } else {
+            self.is_width(self.width_of(&assign.name), &assign.value)
+        }
     }
 
     fn stmt_fits(&self, stmt: &Stmt) -> bool

@@ -4,11 +4,11 @@ ghost use Rattle.std.specs.Prelude.{◌≡◌, map};
 ghost use Rattle.std.specs.List.{list_all};
 ghost use Rattle.lg_vmeaning.specs.Known.{sort_under};
 ghost use Rattle.lg_vmeaning.specs.Things.{is_readable, is_memory, is_reg};
-ghost use Rattle.lg_vmeaning.specs.Rules.{is_of, reads_declared, is_target, stmt_uses, assign_uses, are_used};
+ghost use Rattle.lg_vmeaning.specs.Rules.{is_of, reads_declared, is_target, stmt_uses, assign_uses, is_no_clock, all_use, are_used};
 
-use crate::names::{Names, Sort};
+use crate::names::{Names, Sort, thing_of_decl};
 use crate::rules::{fills, stmts, words};
-use lg_verilog::{Assign, Expr, Fill, Module, Name, Stmt, Word};
+use lg_verilog::{Assign, Decl, Expr, Fill, Module, Name, Stmt, Word};
 
 impl Names {
     /// Whether an expression reads only what has a number, and words of memories.
@@ -51,9 +51,16 @@ impl Names {
         true
     }
 
-    /// Whether each name of a module is used as it is declared.
+    /// Whether each name of a module is used as it is declared, and the clock's is declared as an input alone.
     pub fn are_used(&self, module: &Module) -> bool
         ensures { result ≡ are_used (sort_under self.now) «module».now }
+    {
+        keep_the_clock(module.decls.as_slice()) && self.all_use(module)
+    }
+
+    // Whether each name that stands in the lines of a module is used as it is declared.
+    fn all_use(&self, module: &Module) -> bool
+        ensures { result ≡ all_use (sort_under self.now) «module».now }
     {
         self.assigns_use(module.assigns.as_slice())
             && self.stmts_use(stmts(module))
@@ -143,4 +150,17 @@ impl Names {
             Some(_) => true,
         }
     }
+}
+
+// Whether no declaration has the clock's name.
+fn keep_the_clock(decls: &[Decl]) -> bool
+    ensures { result ≡ list_all is_no_clock decls.now }
+{
+    decls.iter().all(|decl| is_no_clock(decl))
+}
+
+fn is_no_clock(decl: &Decl) -> bool
+    ensures { result ≡ is_no_clock decl.now }
+{
+    thing_of_decl(decl).0.as_str() != "clk"
 }

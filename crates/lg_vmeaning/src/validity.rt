@@ -18,7 +18,7 @@ use std::alloc::{AllocError, Global};
 pub enum MeanFault {
     /// It breaks a rule: the least such, from 1 to 7.
     NotValid { rule: u32 },
-    /// It keeps the rules, and a wire or an output depends on itself: the first in the order of the assigns.
+    /// It keeps the rules, and a wire or an output depends on itself: that of the first such assign.
     Cyclic { wire: Text },
     /// There was no memory.
     Memory,
@@ -42,8 +42,8 @@ impl From<AllocError> for MeanFault {
 
 /// The module as a valid one.
 ///
-/// `NotValid` names the least rule that it breaks, and `Cyclic`, of a module that keeps the rules, the first wire or output
-/// in the order of the assigns that depends on itself.
+/// It is refused with the number of the first rule that does not hold, from 1 on, or, where all hold, with the name of the
+/// first assign that depends on itself.
 pub fn valid(alloc: Global, module: Module) -> Result<Valid, MeanFault>
     ensures same { IfOk result (λ v. v ≡ «module») }
     ensures is_valid { OnOk result (IsValid «module») }
