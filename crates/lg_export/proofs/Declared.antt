@@ -13,7 +13,7 @@ use Rattle.lg_verilog.specs.declared.module.Port.{Port}
 use Rattle.lg_verilog.specs.declared.module.Decl.{Decl}
 use Rattle.lg_verilog.specs.declared.module.Decl.TheVariants as decl
 use Rattle.lg_verilog.specs.declared.module.Assign.{Assign}
-use Rattle.lg_vmeaning.specs.Meaning.{Line, port_line, decl_line, declared, width_of, is_input, input_names, output_names, is_wire, IsCombinational}
+use Rattle.lg_vmeaning.specs.Meaning.{Line, port_line, decl_line, declared, width_of, is_input, is_clock, input_names, output_names, is_wire, IsCombinational}
 use Rattle.lg_vmeaning.specs.InOrder.{IsIn, AreInOrder}
 use Rattle.lg_vmeaning.proofs.InOrderLemmas.{AllDiffer, IsGiven, IsOrdered, assigned}
 use Rattle.lg_export.specs.Layout.{numbered, input_name, output_name, input_wire, output_wire, drivers, part_decls, part_assigns, module_of, module_assigns}
@@ -46,12 +46,26 @@ outputs_last : (ins outs : List PinUse) → map (λ (p : Port). p.name) (filter 
 outputs_last [] outs = all_outputs outs
 outputs_last (p ∷ ins) outs = outputs_last ins outs
 
+-- no port is the clock
+outputs_stay : (outs : List PinUse) → filter (λ (p : Port). not (is_clock p)) (map out_port outs) ≡ map out_port outs
+outputs_stay [] = refl
+outputs_stay (p ∷ outs) = ap (λ (ports : List Port). out_port p ∷ ports) (outputs_stay outs)
+
+ports_stay : (ins outs : List PinUse) → filter (λ (p : Port). not (is_clock p)) (map in_port ins ++ map out_port outs) ≡ map in_port ins ++ map out_port outs
+ports_stay [] outs = outputs_stay outs
+ports_stay (p ∷ ins) outs = ap (λ (ports : List Port). in_port p ∷ ports) (ports_stay ins outs)
+
+declared-is : (n : Netlist) → declared (module_of n) ≡ map port_line (map in_port (input_pins n) ++ map out_port (output_pins n)) ++ map decl_line (flat_map part_decls (numbered n.parts))
+declared-is n = ap (λ (ports : List Port). map port_line ports ++ map decl_line (flat_map part_decls (numbered n.parts))) (ports_stay (input_pins n) (output_pins n))
+
 -- the module's inputs and outputs are those of the pins
 pub input_names-is : (n : Netlist) → input_names (module_of n) ≡ names_in (input_pins n)
-input_names-is n = inputs_first (input_pins n) (output_pins n)
+input_names-is n = ap (λ (ports : List Port). map (λ (p : Port). p.name) (filter is_input ports)) (ports_stay (input_pins n) (output_pins n)) ∙ inputs_first (input_pins n) (output_pins n)
 
 pub output_names-is : (n : Netlist) → output_names (module_of n) ≡ map output_name (output_pins n)
-output_names-is n = outputs_last (input_pins n) (output_pins n)
+output_names-is n =
+    ap (λ (ports : List Port). map (λ (p : Port). p.name) (filter (λ (p : Port). not (is_input p)) ports)) (ports_stay (input_pins n) (output_pins n))
+    ∙ outputs_last (input_pins n) (output_pins n)
 
 not_named : (name : List ℕ) (p : PinUse) (pins : List PinUse) → name ≡ input_name p → NoneNamed p.name pins → IsIn (names_in pins) name → ⊥
 not_named name p [] e differ h = absurd h
@@ -171,13 +185,14 @@ all_given n plain =
     let names : assigned assigns ≡ assigned parts ++ assigned outs = map-append (λ (a : Assign). a.name) parts outs in
     let ports : map port_line (map in_port (input_pins n) ++ map out_port (output_pins n)) ≡ map port_line (map in_port (input_pins n)) ++ map port_line (map out_port (output_pins n)) =
     map-append port_line (map in_port (input_pins n)) (map out_port (output_pins n)) in
-    AreGiven-append known assigns (map port_line (map in_port (input_pins n) ++ map out_port (output_pins n))) (map decl_line decls)
+    subst (AreGiven known assigns) (sym (declared-is n))
+    (AreGiven-append known assigns (map port_line (map in_port (input_pins n) ++ map out_port (output_pins n))) (map decl_line decls)
     (subst (AreGiven known assigns) (sym ports)
     (AreGiven-append known assigns (map port_line (map in_port (input_pins n))) (map port_line (map out_port (output_pins n))) (given_inputs known assigns (input_pins n) (λ name h. h))
     (given_outputs known assigns (drivers n) (output_pins n) (λ name h. subst (λ (all : List (List ℕ)). IsIn all name) (sym names) (IsIn-right (assigned parts) (assigned outs) name h)))))
     (given_decls known assigns decls (wires-parts 0 (driven_by_pins n.pins) n.parts plain.parts)
     (λ name h. subst (λ (all : List (List ℕ)). IsIn all name) (sym names)
-    (IsIn-left (assigned parts) (assigned outs) name (subst (λ (all : List (List ℕ)). IsIn all name) (parts_given (drivers n) 0 (driven_by_pins n.pins) n.parts plain.parts) h))))
+    (IsIn-left (assigned parts) (assigned outs) name (subst (λ (all : List (List ℕ)). IsIn all name) (parts_given (drivers n) 0 (driven_by_pins n.pins) n.parts plain.parts) h)))))
 
 only_width : (known : List (List ℕ)) (assigns : List Assign) (lines : List Line) → AreGiven known assigns lines → AllByRecursion (λ (l : Line). l.1 ≡ 1) lines
 only_width known assigns [] h = tt
@@ -215,7 +230,7 @@ wires_narrow n plain q less =
     let decls = flat_map part_decls (numbered n.parts) in
     let ports = map port_line (map in_port (input_pins n) ++ map out_port (output_pins n)) in
     let names : map (λ (l : Line). l.0) (declared (module_of n)) ≡ map (λ (l : Line). l.0) ports ++ names_of decls =
-    map-append (λ (l : Line). l.0) ports (map decl_line decls) ∙ ap (λ (rest : List (List ℕ)). map (λ (l : Line). l.0) ports ++ rest) (line_names decls) in
+    ap (map (λ (l : Line). l.0)) (declared-is n) ∙ map-append (λ (l : Line). l.0) ports (map decl_line decls) ∙ ap (λ (rest : List (List ℕ)). map (λ (l : Line). l.0) ports ++ rest) (line_names decls) in
     width-one (declared (module_of n)) (input_wire q 0) (only_width (names_in (input_pins n)) (module_assigns n) (declared (module_of n)) (all_given n plain))
     (subst (λ (all : List (List ℕ)). IsIn all (input_wire q 0)) (sym names)
     (IsIn-right (map (λ (l : Line). l.0) ports) (names_of decls) (input_wire q 0) (first_wire (driven_by_pins n.pins) 0 (length n.parts) n.parts (omega arith) plain.parts q (omega arith) less)))

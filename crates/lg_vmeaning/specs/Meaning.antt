@@ -1,6 +1,6 @@
 -- What a module means: equations over numbers, and the valuations that solve them.
 -- Source: IEEE 1364-2005, 6.1 (continuous assignments), 5.1 and 5.4 (operators and the widths of expressions).
-use Rattle.std.specs.Prelude.{◌≡◌, ℕ, ◌+◌, ◌-◌, ◌*◌, ◌/◌, ◌%◌, ◌^◌, ◌<◌, ◌==◌, nat_lt, Bool, true, false, not, IsTrue, List, ◌++◌, map, filter, find, fold, Option, Some, None, option_map, unwrap_or, if◌then◌else◌, bit_and, bit_or, bit_xor}
+use Rattle.std.specs.Prelude.{◌≡◌, ℕ, ◌+◌, ◌-◌, ◌*◌, ◌/◌, ◌%◌, ◌^◌, ◌<◌, ◌==◌, nat_lt, Bool, true, false, not, ◌&&◌, IsTrue, List, ◌++◌, map, filter, find, fold, Option, Some, None, option_map, unwrap_or, if◌then◌else◌, bit_and, bit_or, bit_xor, codes}
 use Rattle.std.specs.Int.{bit_at}
 use Rattle.std.specs.List.{AllByRecursion}
 use Rattle.std.specs.Str.{bytes_eq}
@@ -37,14 +37,6 @@ decl_line (decl.Wire range name) = (name, range_width range)
 decl_line (decl.Reg range name start) = (name, range_width range)
 decl_line (decl.Memory range name last) = (name, range_width range)
 
--- all that a module declares, the ports first; a memory has the width of its words
-abbrev pub declared : Module → List Line
-declared m = map port_line m.ports ++ map decl_line m.decls
-
--- the declared width of a name
-abbrev pub width_of : Module → List ℕ → ℕ
-width_of m name = unwrap_or (option_map (λ (l : Line). l.1) (find (λ (l : Line). bytes_eq l.0 name) (declared m))) 0
-
 abbrev pub is_input : Port → Bool
 is_input p = is_in p.direction
   where
@@ -52,12 +44,27 @@ is_input p = is_in p.direction
     is_in Input = true
     is_in Output = false
 
+-- the clock is the input `clk`, which has no number
+abbrev pub is_clock : Port → Bool
+is_clock p = is_input p && bytes_eq p.name (codes "clk")
+
+abbrev pub numbered_ports : Module → List Port
+numbered_ports m = filter (λ (p : Port). not (is_clock p)) m.ports
+
+-- all else that a module declares, the ports first; a memory has the width of its words
+abbrev pub declared : Module → List Line
+declared m = map port_line (numbered_ports m) ++ map decl_line m.decls
+
+-- the declared width of a name
+abbrev pub width_of : Module → List ℕ → ℕ
+width_of m name = unwrap_or (option_map (λ (l : Line). l.1) (find (λ (l : Line). bytes_eq l.0 name) (declared m))) 0
+
 -- the names of the inputs and of the outputs, in order
 abbrev pub input_names : Module → List (List ℕ)
-input_names m = map (λ p. p.name) (filter is_input m.ports)
+input_names m = map (λ p. p.name) (filter is_input (numbered_ports m))
 
 abbrev pub output_names : Module → List (List ℕ)
-output_names m = map (λ p. p.name) (filter (λ p. not (is_input p)) m.ports)
+output_names m = map (λ p. p.name) (filter (λ p. not (is_input p)) (numbered_ports m))
 
 -- 1 for yes and 0 for no
 abbrev pub number_of_test : Bool → ℕ
