@@ -1,41 +1,12 @@
 #!/usr/bin/env bash
 # Times `read_project` on 0.1, 1 and 8 MiB of a project as the drawing tool saves it: the best of three runs each, as ratios to the first.
-# The program that calls it is built over a copy of the repository, outside it.
 set -eu
 cd "$(dirname "$0")/.."
-folder=$(mktemp -d)
-trap 'rm -rf "$folder"' EXIT
-git clone -q . "$folder/repo"
-crate=$folder/repo/crates/bench_project
-mkdir -p "$crate/src"
-cat >"$crate/src/main.rt" <<'PROGRAM'
-//! Reads the project that a file holds, and says by its status whether there is one.
-#![tactic(auto)]
-
-use lg_circ::read_project;
-use lg_io::{Files, HostFiles};
-use std::env;
-use std::process::ExitCode;
-
-const MOST_BYTES: usize = 16_777_216;
-
-fn main(rt: HostRuntime) -> ExitCode {
-    match sheets_of_file(rt) {
-        Some(_) => ExitCode::SUCCESS,
-        None => ExitCode::FAILURE,
-    }
-}
-
-fn sheets_of_file(rt: HostRuntime) -> Option<usize> {
-    let alloc = rt.alloc();
-    let name = env::args(&rt).ok()?.skip(1).next()?;
-    let mut files = HostFiles::new(rt);
-    let bytes = files.read(alloc, name.as_str(), MOST_BYTES).ok()?;
-    let project = read_project(alloc, bytes.as_slice()).ok()?;
-    Some(project.sheets.len())
-}
-PROGRAM
-echo "bench_project: lg_io lg_circ lg_text sqlite_items" >>"$folder/repo/crates.txt"
+reader=lg_circ::read_project
+counted=sheets
+uses="lg_circ lg_text sqlite_items"
+most=16_777_216
+. bench/reader.sh
 
 # A project of about so many bytes, with sheets of 200 gates.
 project() {
@@ -61,21 +32,7 @@ project() {
 }
 
 project 1000 >"$folder/small.circ"
-(cd "$crate" && rt run -- "$folder/small.circ") >"$folder/build.log" 2>&1 || { cat "$folder/build.log"; exit 1; }
-program=$crate/out/bench_project
-
-# Microseconds of the best of three runs.
-best() {
-  local least= from to took
-  for _ in 1 2 3; do
-    from=$(date +%s%N)
-    "$program" "$1"
-    to=$(date +%s%N)
-    took=$(((to - from) / 1000))
-    if [ -z "$least" ] || [ "$took" -lt "$least" ]; then least=$took; fi
-  done
-  echo "$least"
-}
+build "$folder/small.circ"
 
 first=
 for bytes in 100000 1000000 8350000; do
