@@ -1,9 +1,8 @@
-pub mod Things
+pub mod Kept
 pub mod Meaning
+pub mod Solution
+pub mod Rows
 pub mod InOrder
-pub mod Inside
-pub mod Rules
-pub mod Known
-pub mod Depends
-pub mod Places
-pub mod Valid
+pub mod Terms
+pub mod Resolved
+pub mod Machine

@@ -1,7 +1,0 @@
-use Rattle.std.proofs.Common.{◌≡◌, drop, map}
-use Rattle.lg_vmeaning.specs.Rules.{same, same_each}
-use Rattle.lg_vmeaning.proofs.divisors.+same.Given as goal
-
--- those that are left decide
-abbrev pub invariant-same_each-loop-at : goal.invariant-same_each-loop-at
-invariant-same_each-loop-at l = same_each (map same (drop l.at l.exprs)) (drop l.at l.others) ≡ same_each (map same l.exprs) l.others

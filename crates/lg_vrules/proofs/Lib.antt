@@ -1,0 +1,10 @@
+mod DivisorLemmas
+mod GraphLemmas
+pub mod IndexLemmas
+mod IndexWidthLemmas
+mod InsideLemmas
+pub mod NameLemmas
+mod OnceLemmas
+mod PlaceLemmas
+pub mod RuleLemmas
+mod WidthLemmas

@@ -1,0 +1,8 @@
+pub mod Things
+pub mod Inside
+pub mod Rules
+pub mod Broken
+pub mod Known
+pub mod Depends
+pub mod Places
+pub mod Order

@@ -1,0 +1,179 @@
+//! What is assigned, stored and filled, each as often as it must be.
+
+ghost use Rattle.std.specs.Prelude.{◌≡◌, ◌||◌, not, IfOk, map};
+ghost use Rattle.std.specs.List.{list_all};
+ghost use Rattle.lg_vrules.specs.Known.{sort_under, holds, is_role};
+ghost use Rattle.lg_vrules.specs.Things.{things, port_thing, decl_thing, is_assignable, is_reg, is_memory};
+ghost use Rattle.lg_vrules.specs.Rules.{is_of, has_each, assigned, stored_name, are_assigned_once, is_clocked, fill_is_whole, are_stored_once, are_filled_once};
+
+use crate::fault::Memory;
+use crate::name_set::NameSet;
+use crate::names::{Names, Sort, sort_of_port, thing_of_decl};
+use crate::rules::{fills, stmts};
+use lg_verilog::{Assign, Decl, Fill, Module, Name, Port, Stmt};
+use std::alloc::Global;
+
+/// What a line of a module gives its numbers: an `assign`, a statement or a fill.
+#[derive(Clone, Copy, Debug, PartialEq, Eq)]
+pub enum Role {
+    /// A wire or an output.
+    Assigned,
+    /// A register.
+    Stored,
+    /// A memory.
+    Filled,
+}
+
+impl Role {
+    fn is(self, sort: Sort) -> bool
+        ensures { result ≡ is_role self sort }
+    {
+        match self {
+            Role::Assigned => matches!(sort, Sort::Wire | Sort::Output),
+            Role::Stored => matches!(sort, Sort::Reg),
+            Role::Filled => matches!(sort, Sort::Memory(_)),
+        }
+    }
+}
+
+impl NameSet {
+    // Whether each thing of a module in this role is in the set.
+    fn has_each(&self, role: Role, module: &Module) -> bool
+        ensures { result ≡ has_each (is_role role) (holds self.now) «module».now }
+    {
+        self.has_ports(role, module.ports.as_slice())
+            && self.has_decls(role, module.decls.as_slice())
+    }
+
+    fn has_ports(&self, role: Role, ports: &[Port]) -> bool
+        ensures { result ≡ list_all (λ port. not (is_role role (port_thing port).1.sort) || holds self.now port.name) ports.now }
+    {
+        ports.iter().all(|port| !role.is(sort_of_port(port)) || self.contains(port.name.as_str()))
+    }
+
+    fn has_decls(&self, role: Role, decls: &[Decl]) -> bool
+        ensures { result ≡ list_all (λ decl. not (is_role role (decl_thing decl).1.sort) || holds self.now (decl_thing decl).0) decls.now }
+    {
+        decls.iter().all(|decl| self.has_decl(role, decl))
+    }
+
+    fn has_decl(&self, role: Role, decl: &Decl) -> bool
+        ensures { result ≡ (not (is_role role (decl_thing decl.now).1.sort) || holds self.now (decl_thing decl.now).0) }
+    {
+        let (name, thing) = thing_of_decl(decl);
+        !role.is(thing.sort) || self.contains(name.as_str())
+    }
+}
+
+impl Names {
+    /// Whether each register is stored exactly once and no memory twice, at an edge of the clock.
+    pub fn are_stored_once(&self, alloc: Global, module: &Module) -> Result<bool, Memory>
+        ensures { IfOk result (λ answer. answer ≡ are_stored_once (sort_under self.now) «module».now) }
+    {
+        let names = stored_names(alloc, stmts(module))?;
+        match NameSet::of(alloc, names.as_slice())? {
+            Some(stored) => Ok(stored.has_each(Role::Stored, module) && self.is_clocked(module)),
+            None => Ok(false),
+        }
+    }
+
+    fn is_clocked(&self, module: &Module) -> bool
+        ensures { result ≡ is_clocked (sort_under self.now) «module».now }
+    {
+        module.edge.is_none() || matches!(self.clock(), Some(Sort::Clock))
+    }
+
+    /// Whether each memory is filled exactly once, over its whole length.
+    pub fn are_filled_once(&self, alloc: Global, module: &Module) -> Result<bool, Memory>
+        ensures { IfOk result (λ answer. answer ≡ are_filled_once (sort_under self.now) «module».now) }
+    {
+        let names = filled_names(alloc, fills(module))?;
+        match NameSet::of(alloc, names.as_slice())? {
+            Some(filled) => Ok(
+                self.are_whole(fills(module)) && filled.has_each(Role::Filled, module),
+            ),
+            None => Ok(false),
+        }
+    }
+
+    fn are_whole(&self, fills: &[Fill]) -> bool
+        ensures { result ≡ list_all (fill_is_whole (sort_under self.now)) fills.now }
+    {
+        fills.iter().all(|fill| self.is_whole(fill))
+    }
+
+    fn is_whole(&self, fill: &Fill) -> bool
+        ensures { result ≡ fill_is_whole (sort_under self.now) fill.now }
+    {
+        fill.count.checked_sub(1) == Some(self.last_place(&fill.name))
+    }
+
+    /// Whether wires and outputs, and they alone, have one assign each.
+    pub fn are_assigned_once(&self, alloc: Global, module: &Module) -> Result<bool, Memory>
+        ensures { IfOk result (λ answer. answer ≡ are_assigned_once (sort_under self.now) «module».now) }
+    {
+        let assigns = module.assigns.as_slice();
+        let names = assigned_names(alloc, assigns)?;
+        match NameSet::of(alloc, names.as_slice())? {
+            Some(assigned) => Ok(
+                self.are_assignable(assigns) && assigned.has_each(Role::Assigned, module),
+            ),
+            None => Ok(false),
+        }
+    }
+
+    fn are_assignable(&self, assigns: &[Assign]) -> bool
+        ensures { result ≡ list_all (λ assign. is_of is_assignable (sort_under self.now) assign.name) assigns.now }
+    {
+        assigns
+            .iter()
+            .all(|assign| self.is_assignable(&assign.name))
+    }
+
+    fn is_assignable(&self, name: &Name) -> bool
+        ensures { result ≡ is_of is_assignable (sort_under self.now) name.now }
+    {
+        matches!(self.sort(name), Some(Sort::Wire | Sort::Output))
+    }
+}
+
+/// The names that assigns give numbers, in order.
+pub fn assigned_names(alloc: Global, assigns: &[Assign]) -> Result<Vec<&str>, Memory>
+    ensures { IfOk result (λ names. map (λ name. name.now) names.items ≡ map (λ assign. assign.name) assigns.now) }
+{
+    let mut names = Vec::with_capacity(alloc, assigns.len())?;
+    for assign in assigns {
+        names.push(assign.name.as_str())?;
+    }
+    Ok(names)
+}
+
+/// The names that statements store into, in order.
+pub fn stored_names(alloc: Global, stmts: &[Stmt]) -> Result<Vec<&str>, Memory>
+    ensures { IfOk result (λ names. map (λ name. name.now) names.items ≡ map stored_name stmts.now) }
+{
+    let mut names = Vec::with_capacity(alloc, stmts.len())?;
+    for stmt in stmts {
+        names.push(stored_name(stmt))?;
+    }
+    Ok(names)
+}
+
+fn stored_name(stmt: &Stmt) -> &str
+    ensures { result.now ≡ stored_name stmt.now }
+{
+    match stmt {
+        Stmt::Store { name, .. } | Stmt::StoreIf { name, .. } => name.as_str(),
+    }
+}
+
+/// The names of memories that are filled, in order.
+pub fn filled_names(alloc: Global, fills: &[Fill]) -> Result<Vec<&str>, Memory>
+    ensures { IfOk result (λ names. map (λ name. name.now) names.items ≡ map (λ fill. fill.name) fills.now) }
+{
+    let mut names = Vec::with_capacity(alloc, fills.len())?;
+    for fill in fills {
+        names.push(fill.name.as_str())?;
+    }
+    Ok(names)
+}
