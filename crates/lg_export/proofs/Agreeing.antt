@@ -1,7 +1,6 @@
 -- The static values are the bits of the module's one solution.
-use Rattle.std.proofs.Common.{◌≡◌, ℕ, suc, ◌+◌, ◌<◌, true, List, [], ◌∷◌, ◌++◌, length, map, Option, Some, refl, sym, ap, subst, ◌∙◌, arith, inl, inr, ◌⊎◌}
+use Rattle.std.proofs.Common.{◌≡◌, ℕ, ◌+◌, ◌^◌, ◌<◌, true, List, [], ◌∷◌, ◌++◌, length, map, Option, Some, refl, sym, ap, subst, ◌∙◌, arith, inl, inr, ◌⊎◌}
 use Rattle.std.specs.List.{AllByRecursion, flat_map, enumerate_from}
-use Rattle.std.proofs.lemmas.List.{map-append}
 use Rattle.std.proofs.lemmas.List.Elements.{All-cons, All-nil, All-head}
 use Rattle.lg_value.specs.declared.bit.Bit.{Bit}
 use Rattle.lg_value.specs.Word.{IsDefined, number_of}
@@ -13,23 +12,21 @@ use Rattle.lg_netlist.specs.Cell.{cell_word}
 use Rattle.lg_netlist.specs.Static.{input_pins, output_pins, word_on, word_at, Carries, PartCarries, AreStaticValues, IsDefinedRow, output_words}
 use Rattle.lg_verilog.specs.declared.module.Assign.{Assign}
 use Rattle.lg_verilog.specs.declared.module.Module.{Module}
-use Rattle.lg_vmeaning.specs.Meaning.{Valuation, value_of, width_of, input_names}
-use Rattle.lg_vmeaning.specs.InOrder.{IsIn}
-use Rattle.lg_vmeaning.proofs.InOrderLemmas.{AreBits, HasOutputs-ordered, one_bit, at_names, assigned}
+use Rattle.lg_vrules.specs.Things.{width_of}
+use Rattle.lg_vmeaning.specs.Meaning.{Valuation}
+use Rattle.lg_vmeaning.specs.Solution.{AreNumbers}
+use Rattle.lg_vmeaning.specs.InOrder.{IsIn, sources}
+use Rattle.lg_vmeaning.proofs.InOrderLemmas.{Hold, solved, given_by, TheSolution-ordered}
 use Rattle.lg_export.specs.Layout.{numbered, input_name, output_name, input_wire, output_wire, output_drivers, part_drivers, drivers, driver_name, bits_value, part_assigns, module_of}
-use Rattle.lg_export.specs.Agreement.{AgreesOnRow, Agrees}
-use Rattle.lg_export.proofs.EquationValues.{value_of-Whole, value_of-equation, gate_number}
+use Rattle.lg_export.specs.Agreement.{nothing_kept, AgreesOnRow, Agrees}
+use Rattle.lg_export.proofs.EquationValues.{value_of, value_of-Whole, value_of-equation, gate_number}
 use Rattle.lg_export.proofs.OneGateShape.{IsNetIn, single, IsSimple, IsPinOn, IsLoose, IsOneGateShape, IsOneGateShape-from}
 use Rattle.lg_export.proofs.Driving.{Entry, IsEntry, IsEntry-left, IsEntry-right, pins_drive, names_in, found, from_pin, split_net}
 use Rattle.lg_export.proofs.Ordered.{x_names, x_assigns, w_assign, o_assign, part_assigns-is}
-use Rattle.lg_export.proofs.Declared.{input_names-is, output_names-is, wires_narrow, module_is_ordered, module_is_combinational, IsIn-right}
+use Rattle.lg_export.proofs.Declared.{bit_line, all_names, out_names, wired, inputs-are, no_registers, input_names-are, output_names-are, readable-are, wires_narrow, module_is_ordered, IsIn-left, IsIn-right}
 use Rattle.lg_export.proofs.Gates.{bit_of_digit, IsDefinedBit, bit_is_defined, number_of-bit, bit-number_of, number_of-small, bits_of, AreSmall, gate_bit, gate_bit-number, cell_word-bit}
 
--- each equation holds
-abbrev Hold : Module → Valuation → List Assign → Type 0
-Hold m v assigns = AllByRecursion (λ (a : Assign). v a.name ≡ value_of m v a.value) assigns
-
-split_hold : (m : Module) (v : Valuation) (xs ys : List Assign) → Hold m v (xs ++ ys) → Hold m v xs × Hold m v ys
+split_hold : (m : Module) (v : Valuation) (xs ys : List Assign) → Hold m nothing_kept v (xs ++ ys) → Hold m nothing_kept v xs × Hold m nothing_kept v ys
 split_hold m v [] ys h = (tt, h)
 split_hold m v (x ∷ xs) ys h = let rest = split_hold m v xs ys h.1 in ((h.0, rest.0), rest.1)
 
@@ -41,14 +38,14 @@ cons_bits : (a b : Bit) (xs ys : List Bit) → a ≡ b → xs ≡ ys → a ∷ x
 cons_bits a b xs ys e f = cc
 
 -- the wires at a gate's inputs have the bits of its nets
-input_bits : (n : Netlist) (m : Module) (v : Valuation) (k i : ℕ) (nets : List ℕ) → Hold m v (x_assigns (drivers n) k i nets) → bits_of v (x_names k i nets) ≡ map (bit_on n v) nets
+input_bits : (n : Netlist) (m : Module) (v : Valuation) (k i : ℕ) (nets : List ℕ) → Hold m nothing_kept v (x_assigns (drivers n) k i nets) → bits_of v (x_names k i nets) ≡ map (bit_on n v) nets
 input_bits n m v k i [] h = refl
 input_bits n m v k i (net ∷ nets) h =
     let here : v (input_wire k i) ≡ v (driver_name (drivers n) net) = h.0 ∙ value_of-Whole m v (driver_name (drivers n) net) in
     cons_bits (bit_of_digit (v (input_wire k i))) (bit_on n v net) (bits_of v (x_names k (i + 1) nets)) (map (bit_on n v) nets) (ap bit_of_digit here) (input_bits n m v k (i + 1) nets h.1)
 
 inputs_small : (n : Netlist) (m : Module) (v : Valuation) (on : List ℕ) (k i : ℕ) (nets : List ℕ) → ((net : ℕ) → IsNetIn on net → v (driver_name (drivers n) net) < 2) → AllByRecursion (IsNetIn on) nets
-    → Hold m v (x_assigns (drivers n) k i nets) → AreSmall v (x_names k i nets)
+    → Hold m nothing_kept v (x_assigns (drivers n) k i nets) → AreSmall v (x_names k i nets)
 inputs_small n m v on k i [] small among h = tt
 inputs_small n m v on k i (net ∷ nets) small among h =
     let here : v (input_wire k i) ≡ v (driver_name (drivers n) net) = h.0 ∙ value_of-Whole m v (driver_name (drivers n) net) in
@@ -56,10 +53,10 @@ inputs_small n m v on k i (net ∷ nets) small among h =
 
 -- the number of a gate's output stands for the bit that the gate answers
 gate_output : (n : Netlist) (m : Module) (v : Valuation) (on : List ℕ) (k : ℕ) (p : PartUse) (s : IsSimple on p) → ((net : ℕ) → IsNetIn on net → v (driver_name (drivers n) net) < 2) → width_of m (input_wire k 0) ≡ 1
-    → Hold m v (part_assigns (drivers n) (k, p)) → bit_of_digit (v (output_wire k 0)) ≡ gate_bit p.cell (map (bit_on n v) (s.first ∷ s.more))
+    → Hold m nothing_kept v (part_assigns (drivers n) (k, p)) → bit_of_digit (v (output_wire k 0)) ≡ gate_bit p.cell (map (bit_on n v) (s.first ∷ s.more))
 gate_output n m v on k p s small narrow h =
     let nets = s.first ∷ s.more in
-    let parts = split_hold m v (x_assigns (drivers n) k 0 nets) (w_assign k p.cell nets ∷ []) (subst (Hold m v) (part_assigns-is (drivers n) k on p s) h) in
+    let parts = split_hold m v (x_assigns (drivers n) k 0 nets) (w_assign k p.cell nets ∷ []) (subst (Hold m nothing_kept v) (part_assigns-is (drivers n) k on p s) h) in
     let says : v (output_wire k 0) ≡ gate_number p.cell v (input_wire k 0) (x_names k 1 s.more) = parts.1.0 ∙ value_of-equation m v p.cell (input_wire k 0) (x_names k 1 s.more) narrow in
     ap bit_of_digit says
     ∙ (sym (gate_bit-number p.cell v (input_wire k 0) (x_names k 1 s.more) (inputs_small n m v on k 0 nets small s.among parts.0))
@@ -89,7 +86,7 @@ carried n plain m v on k p s says entries =
 
 parts_carry : (n : Netlist) → IsOneGateShape n → (m : Module) (v : Valuation) (on : List ℕ) (k last : ℕ) (parts : List PartUse) → k + length parts ≡ last → AllByRecursion (IsSimple on) parts
     → ((net : ℕ) → IsNetIn on net → v (driver_name (drivers n) net) < 2) → ((q : ℕ) → q < last → width_of m (input_wire q 0) ≡ 1)
-    → Hold m v (flat_map (part_assigns (drivers n)) (enumerate_from k parts)) → AreEntries (part_drivers k parts) (drivers n) → AllByRecursion (PartCarries (bit_on n v)) parts
+    → Hold m nothing_kept v (flat_map (part_assigns (drivers n)) (enumerate_from k parts)) → AreEntries (part_drivers k parts) (drivers n) → AllByRecursion (PartCarries (bit_on n v)) parts
 parts_carry n plain m v on k last [] e simple small narrow h entries = tt
 parts_carry n plain m v on k last (p ∷ parts) e simple small narrow h entries =
     let sides = split_hold m v (part_assigns (drivers n) (k, p)) (flat_map (part_assigns (drivers n)) (enumerate_from (k + 1) parts)) h in (
@@ -136,18 +133,17 @@ inputs_say n plain v on (p ∷ more) (word ∷ row) pins defined e entries =
     (inputs_say n plain v on more row pins.1 defined.2 (tails (v (input_name p)) (number_of word) (map v (names_in more)) (map number_of row) e)
     (λ k d h. entries k d (IsEntry-right (map (λ j. (j, input_name p)) p.bits) (pins_drive more) k d h)))
 
--- the row's numbers have one bit, and are as many as the pins
-row_bits : (on : List ℕ) (pins : List PinUse) (row : List (List Bit)) → AllByRecursion (IsPinOn on) pins → IsDefinedRow pins row → AreBits (map number_of row) × (length (names_in pins) ≡ length (map number_of row))
-row_bits on [] [] pins defined = (tt, refl)
-row_bits on [] (word ∷ row) pins defined = absurd defined
-row_bits on (p ∷ more) [] pins defined = absurd defined
-row_bits on (p ∷ more) (word ∷ row) pins defined =
+-- the row's numbers are numbers of the pins
+row_numbers : (on : List ℕ) (pins : List PinUse) (row : List (List Bit)) → AllByRecursion (IsPinOn on) pins → IsDefinedRow pins row → AreNumbers (map bit_line (names_in pins)) (map number_of row)
+row_numbers on [] [] pins defined = tt
+row_numbers on [] (word ∷ row) pins defined = absurd defined
+row_numbers on (p ∷ more) [] pins defined = absurd defined
+row_numbers on (p ∷ more) (word ∷ row) pins defined =
     let w = one_bit_word word p.bits pins.0.net pins.0.bits defined.1 defined.0 in
-    let rest = row_bits on more row pins.1 defined.2 in
-    ((subst (λ (k : List Bit). number_of k < 2) (sym w.1) (number_of-small w.0 w.2), rest.0), ap suc rest.1)
+    (subst (λ (k : List Bit). number_of k < 2) (sym w.1) (number_of-small w.0 w.2), row_numbers on more row pins.1 defined.2)
 
 -- the output ports have the numbers of the output pins' words
-outputs_say : (n : Netlist) (m : Module) (v : Valuation) (on : List ℕ) (pins : List PinUse) → AllByRecursion (IsPinOn on) pins → Hold m v (map (o_assign (drivers n)) pins)
+outputs_say : (n : Netlist) (m : Module) (v : Valuation) (on : List ℕ) (pins : List PinUse) → AllByRecursion (IsPinOn on) pins → Hold m nothing_kept v (map (o_assign (drivers n)) pins)
     → AllByRecursion (λ (p : PinUse). v (output_name p) < 2) pins → map v (map output_name pins) ≡ map number_of (pins_say pins (bit_on n v))
 outputs_say n m v on [] pins h small = refl
 outputs_say n m v on (p ∷ more) pins h small =
@@ -271,30 +267,34 @@ static_only n plain row value other sv so =
       | inr g ↦ on_pins net g
     ])
 
-all_small_outputs : (v : Valuation) (D : List (ℕ × List ℕ)) (pins : List PinUse) (before : List Assign) → ((name : List ℕ) → IsIn (assigned (before ++ map (o_assign D) pins)) name → v name < 2) → AllByRecursion (λ (p : PinUse). v (output_name p) < 2) pins
-all_small_outputs v D pins before small = each pins (λ name h. small name (subst (λ (all : List (List ℕ)). IsIn all name) (sym (map-append (λ (a : Assign). a.name) before (map (o_assign D) pins))) (IsIn-right (assigned before) (assigned (map (o_assign D) pins)) name h)))
-  where
-    each : (ps : List PinUse) → ((name : List ℕ) → IsIn (assigned (map (o_assign D) ps)) name → v name < 2) → AllByRecursion (λ (p : PinUse). v (output_name p) < 2) ps
-    each [] low = tt
-    each (p ∷ ps) low = (low (output_name p) (inl refl), each ps (λ name h. low name (inr h)))
+-- names of one bit have numbers of one bit
+all_small : (v : Valuation) (names : List (List ℕ)) → AllByRecursion (λ (l : List ℕ × ℕ). v l.0 < 2 ^ l.1) (map bit_line names) → (name : List ℕ) → IsIn names name → v name < 2
+all_small v [] within name here = absurd here
+all_small v (other ∷ names) within name (inl e) = subst (λ (known : List ℕ). v known < 2) (sym e) within.0
+all_small v (other ∷ names) within name (inr here) = all_small v names within.1 name here
+
+small_outputs : (v : Valuation) (pins : List PinUse) → ((name : List ℕ) → IsIn (map output_name pins) name → v name < 2) → AllByRecursion (λ (p : PinUse). v (output_name p) < 2) pins
+small_outputs v [] small = tt
+small_outputs v (p ∷ pins) small = (small (output_name p) (inl refl), small_outputs v pins (λ name h. small name (inr h)))
 
 -- the static values that a solution gives
 agrees_on : (n : Netlist) → IsOneGateShape n → (row : List (List Bit)) → IsDefinedRow (input_pins n) row → AgreesOnRow n (module_of n) row
 agrees_on n plain row defined =
     let m = module_of n in
     let on = driven_by_pins n.pins in
-    let names = input_names-is n in
-    let ordered = module_is_ordered n plain in
-    let numbers = row_bits on (input_pins n) row plain.inputs defined in
-    let solved = HasOutputs-ordered m (map number_of row) ordered (ap length names ∙ numbers.1) numbers.0 in
-    let v = solved.0 in
-    let solution = solved.1 in
-    let given : map v (names_in (input_pins n)) ≡ map number_of row = ap (map v) (sym names) ∙ solution.inputs in
-    let input_small = at_names (names_in (input_pins n)) v (map number_of row) given numbers.0 in
-    let small = one_bit m (input_names m) m.assigns v ordered.in_order (at_names (input_names m) v (map number_of row) solution.inputs numbers.0) solution.equations in
+    let numbers = map number_of row in
+    let are_inputs = subst (λ (lines : List (List ℕ × ℕ)). AreNumbers lines numbers) (sym (inputs-are n plain)) (row_numbers on (input_pins n) row plain.inputs defined) in
+    let are_registers = subst (λ (lines : List (List ℕ × ℕ)). AreNumbers lines []) (sym (no_registers n plain)) tt in
+    let v = solved m nothing_kept (given_by (sources m) (numbers ++ [])) m.assigns in
+    let solution = TheSolution-ordered m nothing_kept numbers m.assigns (module_is_ordered n plain) are_inputs are_registers in
+    let equations = solution.solves.equations in
+    let given : map v (names_in (input_pins n)) ≡ numbers = ap (map v) (sym (input_names-are n plain)) ∙ solution.solves.inputs in
+    let small = all_small v (all_names n) (subst (AllByRecursion (λ (l : List ℕ × ℕ). v l.0 < 2 ^ l.1)) (readable-are n plain) solution.solves.within) in
+    let input_small : (name : List ℕ) → IsIn (names_in (input_pins n)) name → v name < 2 = λ name h. small name (IsIn-left (names_in (input_pins n)) (out_names n ++ wired n) name h) in
+    let output_small = small_outputs v (output_pins n) (λ name h. small name (IsIn-right (names_in (input_pins n)) (out_names n ++ wired n) name (IsIn-left (out_names n) (wired n) name h))) in
     let parts = flat_map (part_assigns (drivers n)) (numbered n.parts) in
     let outs = map (o_assign (drivers n)) (output_pins n) in
-    let sides = split_hold m v parts outs solution.equations in
+    let sides = split_hold m v parts outs equations in
     let values : AreStaticValues n row (bit_on n v) = record {
       pins = inputs_say n plain v on (input_pins n) row plain.inputs defined given (λ net name h. IsEntry-right (part_drivers 0 n.parts) (pins_drive (input_pins n)) net name h);
       parts = parts_carry n plain m v on 0 (length n.parts) n.parts (omega arith) plain.parts (λ net h. input_small (driver_name (drivers n) net) (from_pin n plain net h)) (wires_narrow n plain) sides.0
@@ -305,12 +305,9 @@ agrees_on n plain row defined =
       static = record { value = bit_on n v; are_values = values; gives = refl; only = λ other so. static_only n plain row (bit_on n v) other values so };
       defined = outputs_defined n v (driven n) (output_pins n) plain.outputs;
       solved = record {
-        combinational = module_is_combinational n plain;
         value = v;
-        solves = solution;
-        only = solved.2;
-        gives = ap (map v) (output_names-is n)
-            ∙ outputs_say n m v (driven n) (output_pins n) plain.outputs sides.1 (all_small_outputs v (drivers n) (output_pins n) parts (λ name h. small name (inr h)));
+        solution = solution;
+        gives = ap (map v) (output_names-are n plain) ∙ outputs_say n m v (driven n) (output_pins n) plain.outputs sides.1 output_small;
       };
     }
 

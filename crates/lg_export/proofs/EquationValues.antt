@@ -1,10 +1,7 @@
 -- The values of the equations that are written: a name, an inverted name, and names joined by an operator.
-use Rattle.std.proofs.Common.{◌≡◌, ℕ, zero, suc, ◌-◌, ◌^◌, ◌<◌, List, [], ◌∷◌, map, fold, option_map, unwrap_or, Bool, true, false, refl, sym, ap, subst, ◌∙◌, arith, inl, inr, ◌⊎◌, lit<}
-use Rattle.std.specs.Prelude.{find, bit_and, bit_or}
+use Rattle.std.proofs.Common.{◌≡◌, ℕ, zero, suc, ◌-◌, ◌^◌, ◌<◌, List, [], ◌∷◌, map, fold, refl, sym, ap, subst, ◌∙◌, arith, inl, inr, ◌⊎◌, lit<}
+use Rattle.std.specs.Prelude.{bit_and, bit_or}
 use Rattle.std.specs.List.{AllByRecursion}
-use Rattle.std.specs.Str.{bytes_eq}
-use Rattle.std.proofs.lemmas.Bool.{false≢true}
-use Rattle.std.proofs.lemmas.Slice.Eq.{bytes_eq-Decides}
 use Rattle.lg_netlist.specs.declared.netlist.Cell.{Cell}
 use Rattle.lg_netlist.specs.declared.netlist.Cell.TheVariants as cell
 use Rattle.lg_verilog.specs.declared.expr.Expr.{Expr, fold-Expr}
@@ -15,9 +12,23 @@ use Rattle.lg_verilog.specs.declared.expr.Expr.TheVariants as expr
 use Rattle.lg_verilog.specs.declared.expr.Operator.{Operator}
 use Rattle.lg_verilog.specs.declared.expr.Operator.TheVariants as operator
 use Rattle.lg_verilog.specs.declared.module.Module.{Module}
-use Rattle.lg_vmeaning.specs.Meaning.{Valuation, Line, value_of, width_of, form_value, operator_value}
-use Rattle.lg_vmeaning.specs.InOrder.{IsIn, AgreeAt, ReadsOnly, IsOneBit}
+use Rattle.lg_vrules.specs.Things.{width_of}
+use Rattle.lg_vmeaning.specs.Meaning.{Valuation, number_of, form_number, memory_words, operator_value}
+use Rattle.lg_vmeaning.specs.InOrder.{IsIn, AgreeAt, ReadsOnly}
+use Rattle.lg_export.specs.Agreement.{nothing_kept}
 use Rattle.lg_export.specs.Layout.{equation, joined}
+
+-- the number of an expression where there is no register and no memory
+abbrev pub value_of : Module → Valuation → Expr → ℕ
+value_of m value e = number_of m nothing_kept value e
+
+-- what the form of an expression says of the numbers of its parts
+abbrev form_value : Module → Valuation → Expr-F (ℕ × ℕ) → ℕ × ℕ
+form_value m value = form_number (width_of m) (memory_words m nothing_kept) value
+
+-- where these names have numbers of one bit, so has the expression
+abbrev pub IsOneBit : Module → List (List ℕ) → Expr → Type 0
+IsOneBit m known e = (v : Valuation) → ((name : List ℕ) → IsIn known name → v name < 2) → value_of m v e < 2
 
 fold-Whole : (step : Expr-F (ℕ × ℕ) → ℕ × ℕ) (name : List ℕ) → fold-Expr (ℕ × ℕ) step (expr.Whole name) ≡ step (Expr-F.Whole name)
 fold-Whole step name = ap (λ (e : Expr). fold-Expr (ℕ × ℕ) step e) (sym (rolls-Whole name)) ∙ fold-roll-Expr (ℕ × ℕ) step (Expr-F.Whole name)
@@ -31,11 +42,11 @@ fold-Binary step a op b =
     ap (λ (x : Expr). fold-Expr (ℕ × ℕ) step x) (sym (rolls-Binary a op b)) ∙ fold-roll-Expr (ℕ × ℕ) step (Expr-F.Binary a op b)
 
 pub value_of-Whole : (m : Module) (value : Valuation) (name : List ℕ) → value_of m value (expr.Whole name) ≡ value name
-value_of-Whole m value name = ap (λ (r : ℕ × ℕ). r.1) (fold-Whole (form_value (width_of m) value) name)
+value_of-Whole m value name = ap (λ (r : ℕ × ℕ). r.1) (fold-Whole (form_value m value) name)
 
 value_of-Not : (m : Module) (value : Valuation) (name : List ℕ) → value_of m value (expr.Not (expr.Whole name)) ≡ 2 ^ width_of m name - 1 - value name
 value_of-Not m value name =
-    let step = form_value (width_of m) value in
+    let step = form_value m value in
     ap (λ (r : ℕ × ℕ). r.1) (fold-Not step (expr.Whole name)) ∙ ap (λ (r : ℕ × ℕ). 2 ^ r.0 - 1 - r.1) (fold-Whole step name)
 
 -- an operator that works bit by bit gives this number, whatever the width
@@ -45,8 +56,8 @@ IsBitwise op step = (width a b : ℕ) → operator_value op width a b ≡ step a
 value_of-Binary : (m : Module) (value : Valuation) (a : Expr) (op : Operator) (step : ℕ → ℕ → ℕ) (b : Expr) → IsBitwise op step
     → value_of m value (expr.Binary a op b) ≡ step (value_of m value a) (value_of m value b)
 value_of-Binary m value a op step b bitwise =
-    let width = (fold-Expr (ℕ × ℕ) (form_value (width_of m) value) a).0 in
-    ap (λ (r : ℕ × ℕ). r.1) (fold-Binary (form_value (width_of m) value) a op b) ∙ bitwise width (value_of m value a) (value_of m value b)
+    let width = (fold-Expr (ℕ × ℕ) (form_value m value) a).0 in
+    ap (λ (r : ℕ × ℕ). r.1) (fold-Binary (form_value m value) a op b) ∙ bitwise width (value_of m value a) (value_of m value b)
 
 -- the numbers of some names, joined one after the other to a first number
 abbrev pub folded : (ℕ → ℕ → ℕ) → Valuation → ℕ → List (List ℕ) → ℕ
@@ -72,10 +83,6 @@ abbrev pub gate_number : Cell → Valuation → List ℕ → List (List ℕ) →
 gate_number cell.Not value name names = 1 - value name
 gate_number cell.And value name names = folded bit_and value (value name) names
 gate_number cell.Or value name names = folded bit_or value (value name) names
-
--- names that are declared with one bit
-abbrev pub AreNarrow : Module → List (List ℕ) → Type 0
-AreNarrow m names = AllByRecursion (λ name. width_of m name ≡ 1) names
 
 pub value_of-equation : (m : Module) (value : Valuation) (c : Cell) (name : List ℕ) (names : List (List ℕ)) → width_of m name ≡ 1 → value_of m value (equation c (wholes (name ∷ names))) ≡ gate_number c value name names
 value_of-equation m value cell.Not name names narrow = value_of-Not m value name ∙ ap (λ (w : ℕ). 2 ^ w - 1 - value name) narrow
@@ -137,13 +144,13 @@ gate_number_small cell.Not v name names low small = omega arith
 gate_number_small cell.And v name names low small = folded_small bit_and v (v name) names bit_and-stays low small
 gate_number_small cell.Or v name names low small = folded_small bit_or v (v name) names bit_or-stays low small
 
-pub ReadsOnly-Whole : (m : Module) (known : List (List ℕ)) (name : List ℕ) → IsIn known name → ReadsOnly m known (expr.Whole name)
+pub ReadsOnly-Whole : (m : Module) (known : List (List ℕ)) (name : List ℕ) → IsIn known name → ReadsOnly m nothing_kept known (expr.Whole name)
 ReadsOnly-Whole m known name here v w agree = value_of-Whole m v name ∙ (agree name here ∙ sym (value_of-Whole m w name))
 
 pub IsOneBit-Whole : (m : Module) (known : List (List ℕ)) (name : List ℕ) → IsIn known name → IsOneBit m known (expr.Whole name)
 IsOneBit-Whole m known name here v small = subst (λ (k : ℕ). k < 2) (sym (value_of-Whole m v name)) (small name here)
 
-pub ReadsOnly-equation : (m : Module) (known : List (List ℕ)) (c : Cell) (name : List ℕ) (names : List (List ℕ)) → width_of m name ≡ 1 → AreKnown known (name ∷ names) → ReadsOnly m known (equation c (wholes (name ∷ names)))
+pub ReadsOnly-equation : (m : Module) (known : List (List ℕ)) (c : Cell) (name : List ℕ) (names : List (List ℕ)) → width_of m name ≡ 1 → AreKnown known (name ∷ names) → ReadsOnly m nothing_kept known (equation c (wholes (name ∷ names)))
 ReadsOnly-equation m known c name names narrow here v w agree =
     value_of-equation m v c name names narrow ∙ (gate_number-agree c v w known name names agree here ∙ sym (value_of-equation m w c name names narrow))
 
@@ -151,16 +158,3 @@ pub IsOneBit-equation : (m : Module) (known : List (List ℕ)) (c : Cell) (name 
 IsOneBit-equation m known c name names narrow here v small =
     subst (λ (k : ℕ). k < 2) (sym (value_of-equation m v c name names narrow))
     (gate_number_small c v name names (small name here.0) (all_small v known names small here.1))
-
--- a name that is declared has one bit, where all that is declared has
-pub width-one : (lines : List Line) (name : List ℕ) → AllByRecursion (λ (l : Line). l.1 ≡ 1) lines → IsIn (map (λ (l : Line). l.0) lines) name
-    → unwrap_or (option_map (λ (l : Line). l.1) (find (λ (l : Line). bytes_eq l.0 name) lines)) 0 ≡ 1
-width-one [] name narrow here = absurd here
-width-one (l ∷ lines) name narrow here = by (bytes_eq l.0 name) refl here (width-one lines name narrow.1)
-  where
-    by : (t : Bool) → bytes_eq l.0 name ≡ t → (name ≡ l.0) ⊎ IsIn (map (λ (k : Line). k.0) lines) name
-        → (IsIn (map (λ (k : Line). k.0) lines) name → unwrap_or (option_map (λ (k : Line). k.1) (find (λ (k : Line). bytes_eq k.0 name) lines)) 0 ≡ 1)
-        → unwrap_or (option_map (λ (k : Line). k.1) (find (λ (k : Line). bytes_eq k.0 name) (l ∷ lines))) 0 ≡ 1
-    by true e h rest = rw e narrow.0
-    by false e (inl f) rest = absurd (false≢true (sym e ∙ (bytes_eq-Decides l.0 name).1 (sym f)))
-    by false e (inr h) rest = rw e (rest h)

@@ -14,13 +14,19 @@ use Rattle.lg_verilog.specs.declared.expr.Expr.{Expr}
 use Rattle.lg_verilog.specs.declared.expr.Expr.TheVariants as expr
 use Rattle.lg_verilog.specs.declared.module.Assign.{Assign}
 use Rattle.lg_verilog.specs.declared.module.Module.{Module}
-use Rattle.lg_vmeaning.specs.Meaning.{width_of}
-use Rattle.lg_vmeaning.specs.InOrder.{IsIn, ReadsOnly, IsOneBit, AreInOrder}
+use Rattle.lg_vrules.specs.Things.{width_of}
+use Rattle.lg_vmeaning.specs.InOrder.{IsIn, ReadsOnly}
+use Rattle.lg_export.specs.Agreement.{nothing_kept}
 use Rattle.lg_export.specs.Layout.{output_name, input_wire, output_wire, drivers, driver_name, bits_value, attached, equation, part_decls, part_assigns, module_assigns}
-use Rattle.lg_export.proofs.EquationValues.{AreKnown, ReadsOnly-Whole, IsOneBit-Whole, ReadsOnly-equation, IsOneBit-equation}
+use Rattle.lg_export.proofs.EquationValues.{AreKnown, IsOneBit, ReadsOnly-Whole, IsOneBit-Whole, ReadsOnly-equation, IsOneBit-equation}
 use Rattle.lg_export.proofs.WireNames.{initial, initial-input_wire, initial-output_wire, initial-input_name, initial-output_name, apart, input_wire_same, output_wire_same, output_name_same}
 use Rattle.lg_export.proofs.OneGateShape.{IsNetIn, single, IsSimple, IsPinOn, NoneNamed, NamesDiffer, IsOneGateShape}
 use Rattle.lg_export.proofs.Driving.{names_in, IsSource, from_pin, from_source}
+
+-- equations of one bit in order: each reads only names that are known before it, and gives a number to a new one
+abbrev pub AreBitsInOrder : Module → List (List ℕ) → List Assign → Type 0
+AreBitsInOrder m known [] = Unit {0}
+AreBitsInOrder m known (a ∷ more) = ReadsOnly m nothing_kept known a.value × IsOneBit m known a.value × (IsIn known a.name → ⊥) × AreBitsInOrder m (a.name ∷ known) more
 
 -- the names of the wires at some inputs, from input i on
 abbrev pub x_names : ℕ → ℕ → List ℕ → List (List ℕ)
@@ -167,7 +173,7 @@ FedBy on D pins = (net : ℕ) → IsNetIn on net → IsIn pins (driver_name D ne
 
 order_inputs : (m : Module) (on : List ℕ) (D : List (ℕ × List ℕ)) (pins : List (List ℕ)) (k last : ℕ) → AreInputs pins → FedBy on D pins → k < 2 ^ 32 → last ≤ 64
     → (known : List (List ℕ)) (i : ℕ) (nets : List ℕ) (rest : List Assign) → i + length nets ≡ last → AllByRecursion (IsNetIn on) nets → Knows pins k i known
-    → ((after : List (List ℕ)) → Knows pins k last after → AreInOrder m after rest) → AreInOrder m known (x_assigns D k i nets ++ rest)
+    → ((after : List (List ℕ)) → Knows pins k last after → AreBitsInOrder m after rest) → AreBitsInOrder m known (x_assigns D k i nets ++ rest)
 order_inputs m on D pins k last inputs fed few most known i [] rest e among knows go =
     let done : i ≡ last = omega (arith, e) in
     go known (subst (λ (j : ℕ). Knows pins k j known) done knows)
@@ -190,13 +196,13 @@ AreWires m parts = (q : ℕ) → q < parts → width_of m (input_wire q 0) ≡ 1
 
 order_part : (m : Module) (on : List ℕ) (D : List (ℕ × List ℕ)) (pins : List (List ℕ)) (k : ℕ) → AreInputs pins → FedBy on D pins → k < 2 ^ 32 → width_of m (input_wire k 0) ≡ 1
     → (known : List (List ℕ)) (p : PartUse) (s : IsSimple on p) (rest : List Assign) → Knows pins k 0 known
-    → ((after : List (List ℕ)) → Knows pins (k + 1) 0 after → AreInOrder m after rest) → AreInOrder m known (part_assigns D (k, p) ++ rest)
+    → ((after : List (List ℕ)) → Knows pins (k + 1) 0 after → AreBitsInOrder m after rest) → AreBitsInOrder m known (part_assigns D (k, p) ++ rest)
 order_part m on D pins k inputs fed few narrow known p s rest knows go =
     let nets = s.first ∷ s.more in
     let last = length nets in
     let whole : part_assigns D (k, p) ++ rest ≡ x_assigns D k 0 nets ++ (w_assign k p.cell nets ∷ rest) =
     ap (λ (equations : List Assign). equations ++ rest) (part_assigns-is D k on p s) ∙ append_assoc (x_assigns D k 0 nets) (w_assign k p.cell nets ∷ []) rest in
-    subst (AreInOrder m known) (sym whole)
+    subst (AreBitsInOrder m known) (sym whole)
     (order_inputs m on D pins k last inputs fed few s.few known 0 nets (w_assign k p.cell nets ∷ rest) (omega arith) s.among knows
     (λ after now.
     let here = names_known pins k last after now 0 nets (omega arith) in (
@@ -208,13 +214,13 @@ order_part m on D pins k inputs fed few narrow known p s rest knows go =
 
 order_parts : (m : Module) (on : List ℕ) (D : List (ℕ × List ℕ)) (pins : List (List ℕ)) (last : ℕ) → AreInputs pins → FedBy on D pins → last < 2 ^ 32 → AreWires m last
     → (known : List (List ℕ)) (k : ℕ) (parts : List PartUse) (rest : List Assign) → k + length parts ≡ last → AllByRecursion (IsSimple on) parts → Knows pins k 0 known
-    → ((after : List (List ℕ)) → Knows pins last 0 after → AreInOrder m after rest) → AreInOrder m known (flat_map (part_assigns D) (enumerate_from k parts) ++ rest)
+    → ((after : List (List ℕ)) → Knows pins last 0 after → AreBitsInOrder m after rest) → AreBitsInOrder m known (flat_map (part_assigns D) (enumerate_from k parts) ++ rest)
 order_parts m on D pins last inputs fed few wires known k [] rest e simple knows go =
     let done : k ≡ last = omega (arith, e) in
     go known (subst (λ (j : ℕ). Knows pins j 0 known) done knows)
 order_parts m on D pins last inputs fed few wires known k (p ∷ parts) rest e simple knows go =
     let later = flat_map (part_assigns D) (enumerate_from (k + 1) parts) in
-    subst (AreInOrder m known) (sym (append_assoc (part_assigns D (k, p)) later rest))
+    subst (AreBitsInOrder m known) (sym (append_assoc (part_assigns D (k, p)) later rest))
     (order_part m on D pins k inputs fed (omega (arith, e)) (wires k (omega (arith, e))) known p simple.0 (later ++ rest) knows
     (λ after now. order_parts m on D pins last inputs fed few wires after (k + 1) parts rest (omega (arith, e)) simple.1 now go))
 
@@ -235,12 +241,12 @@ AreNew-more known p (q ∷ outs) differ new = (λ h. by h, AreNew-more known p o
     by (inr h) = new.0 h
 
 order_outputs : (m : Module) (on : List ℕ) (D : List (ℕ × List ℕ)) (known : List (List ℕ)) (outs : List PinUse) → ((net : ℕ) → IsNetIn on net → IsIn known (driver_name D net))
-    → AllByRecursion (IsPinOn on) outs → NamesDiffer outs → AreNew known outs → AreInOrder m known (map (o_assign D) outs)
+    → AllByRecursion (IsPinOn on) outs → NamesDiffer outs → AreNew known outs → AreBitsInOrder m known (map (o_assign D) outs)
 order_outputs m on D known [] sources pins differ new = tt
 order_outputs m on D known (p ∷ outs) sources pins differ new =
     let source = sources pins.0.net pins.0.among in
     let value : bits_value D p.bits ≡ expr.Whole (driver_name D pins.0.net) = ap (bits_value D) pins.0.bits in (
-      subst (ReadsOnly m known) (sym value) (ReadsOnly-Whole m known (driver_name D pins.0.net) source),
+      subst (ReadsOnly m nothing_kept known) (sym value) (ReadsOnly-Whole m known (driver_name D pins.0.net) source),
       subst (IsOneBit m known) (sym value) (IsOneBit-Whole m known (driver_name D pins.0.net) source),
       new.0,
       order_outputs m on D (output_name p ∷ known) outs (λ net h. inr (sources net h)) pins.1 differ.1 (AreNew-more known p outs differ.0 new.1),
@@ -276,7 +282,7 @@ start pins = record {
 }
 
 -- the equations of a plain netlist's module stand in order, where its wires have one bit
-pub in_order : (n : Netlist) → IsOneGateShape n → (m : Module) → AreWires m (length n.parts) → AreInOrder m (names_in (input_pins n)) (module_assigns n)
+pub in_order : (n : Netlist) → IsOneGateShape n → (m : Module) → AreWires m (length n.parts) → AreBitsInOrder m (names_in (input_pins n)) (module_assigns n)
 in_order n plain m wires =
     let pins = names_in (input_pins n) in
     order_parts m (driven_by_pins n.pins) (drivers n) pins (length n.parts) (inputs_begin (input_pins n)) (from_pin n plain) plain.few_parts wires pins 0 n.parts (map (o_assign (drivers n)) (output_pins n)) (omega arith) plain.parts (start (input_pins n))

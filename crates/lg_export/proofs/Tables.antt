@@ -14,8 +14,8 @@ use Rattle.lg_netlist.specs.OneGate.{driven_by_pins, is_one_gate}
 use Rattle.lg_netlist.specs.Static.{input_pins, output_pins, word_on, IsDefinedRow}
 use Rattle.lg_sim.specs.InTime.{circuit_of}
 use Rattle.lg_verilog.specs.declared.module.Module.{Module}
-use Rattle.lg_vmeaning.specs.Meaning.{HasOutputs}
-use Rattle.lg_export.specs.Agreement.{Agrees}
+use Rattle.lg_vmeaning.specs.Solution.{HasOutputs}
+use Rattle.lg_export.specs.Agreement.{nothing_kept, Agrees}
 use Rattle.lg_export.specs.InTime.{LineAgrees, LinesAgree, AgreesInTime}
 use Rattle.lg_export.proofs.OneGateShape.{IsPinOn, IsOneGateShape, IsOneGateShape-from}
 use Rattle.lg_export.proofs.Agreeing.{one_bit_word}
@@ -60,7 +60,7 @@ line_agrees n m plain agrees before from settled words defined soon settles =
     record {
       soon = omega (arith, soon);
       defined = subst (AllByRecursion IsDefined) (sym read) a.defined;
-      same = subst (λ (outputs : List Word). HasOutputs m (map number_of words) (map number_of outputs)) (sym read) a.solved;
+      same = subst (λ (outputs : List Word). HasOutputs m nothing_kept (map number_of words) (map number_of outputs)) (sym read) a.solved;
     }
 
 -- the rest of a table

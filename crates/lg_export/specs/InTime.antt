@@ -8,13 +8,14 @@ use Rattle.lg_netlist.specs.declared.netlist.Netlist.{Netlist}
 use Rattle.lg_netlist.specs.Static.{input_pins, IsDefinedRow}
 use Rattle.lg_sim.specs.InTime.{circuit_of}
 use Rattle.lg_verilog.specs.declared.module.Module.{Module}
-use Rattle.lg_vmeaning.specs.Meaning.{HasOutputs}
+use Rattle.lg_vmeaning.specs.Solution.{HasOutputs}
+use Rattle.lg_export.specs.Agreement.{nothing_kept}
 
 -- a line of the session table: it took at most one instant, and its outputs are those of the module for the row
 pub record LineAgrees (m : Module) (row : List Word) (line : Line) : Type 0 where
   pub soon : line.settle ≤ 1
   pub defined : AllByRecursion IsDefined line.outputs
-  pub same : HasOutputs m (map number_of row) (map number_of line.outputs)
+  pub same : HasOutputs m nothing_kept (map number_of row) (map number_of line.outputs)
 
 -- a line for each row
 abbrev pub LinesAgree : Module → List (List Word) → List Line → Type 0

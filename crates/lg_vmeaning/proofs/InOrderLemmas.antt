@@ -145,16 +145,17 @@ within_lines m (l ∷ lines) v widths are name (inl e) =
     subst (λ (other : List ℕ). v other < 2 ^ width_of m other) (sym e) (subst (λ (width : ℕ). v l.0 < 2 ^ width) (sym widths.0) are.0)
 within_lines m (l ∷ lines) v widths are name (inr here) = within_lines m lines v widths.1 are.1 name here
 
--- what holds of all readable names holds of those of one readable sort
 abbrev line : List ℕ × Thing → List ℕ × ℕ
 line t = (t.0, range_width t.1.high)
 
 abbrev of : (Sort → Bool) → List (List ℕ × Thing) → List (List ℕ × Thing)
 of is all = filter (λ (t : List ℕ × Thing). is t.1.sort) all
 
-abbrev sorted : (Sort → Bool) → List (List ℕ × Thing) → List (List ℕ × ℕ)
+-- the lines of one sort among these
+abbrev pub sorted : (Sort → Bool) → List (List ℕ × Thing) → List (List ℕ × ℕ)
 sorted is all = map line (of is all)
 
+-- what holds of all readable names holds of those of one readable sort
 of_sort : (is : Sort → Bool) → ((s : Sort) → is s ≡ true → is_readable s ≡ true) → (P : List ℕ × ℕ → Type 0) (all : List (List ℕ × Thing))
     → AllByRecursion P (sorted is_readable all) → AllByRecursion P (sorted is all)
 of_sort is readable P [] all_hold = tt
@@ -185,7 +186,7 @@ reg-is_readable (sort.Memory last) e = absurd (cc e)
 
 -- names of two lists
 
-in_either : (names others : List (List ℕ)) (name : List ℕ) → IsIn (names ++ others) name → IsIn names name ⊎ IsIn others name
+pub in_either : (names others : List (List ℕ)) (name : List ℕ) → IsIn (names ++ others) name → IsIn names name ⊎ IsIn others name
 in_either [] others name here = inr here
 in_either (other ∷ names) others name (inl e) = inl (inl e)
 in_either (other ∷ names) others name (inr here) = by (in_either names others name here)
