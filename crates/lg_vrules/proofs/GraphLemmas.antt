@@ -7,7 +7,7 @@ use Rattle.std.proofs.lemmas.List.{length-map}
 use Rattle.std.proofs.lemmas.List.Elements.{Contains-append_right, Contains-get_or}
 use Rattle.std.proofs.lemmas.Option.{same_Some, slice_get-map, slice_get_within, slice_get-get_or, get_or_from_slice_get, unwrap_or-slice_get}
 use Rattle.std.proofs.lemmas.Slice.Eq.{bytes_eq-Decides}
-use Rattle.lg_graph.specs.Graph.{Graph, IsGraph, HasArrow, IsWay, Leads, StandsBefore, IsSorted}
+use Rattle.lg_graph.specs.Graph.{Graph, IsGraph, HasArrow, IsWay, Leads, IsSorted}
 use Rattle.lg_graph.specs.declared.sorting.Sorted.{Sorted}
 use Rattle.lg_verilog.specs.declared.module.Assign.{Assign}
 use Rattle.lg_verilog.specs.declared.module.Module.{Module}
