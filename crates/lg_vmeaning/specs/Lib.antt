@@ -3,6 +3,7 @@ pub mod Meaning
 pub mod Solution
 pub mod Rows
 pub mod InOrder
+pub mod Lines
 pub mod Terms
 pub mod Resolved
 pub mod Machine

@@ -1,5 +1,5 @@
 -- A module made ready to run. No contract of the crate's surface speaks of this.
-use Rattle.std.specs.Prelude.{◌≡◌, ℕ, ◌==◌, List, [], ◌∷◌, ◌++◌, map, zip, fold, filter_map, Option, Some, None, option_and_then, unwrap_or, slice_get, slice_set, if◌then◌else◌}
+use Rattle.std.specs.Prelude.{ℕ, ◌+◌, ◌==◌, List, [], ◌∷◌, ◌++◌, map, zip, fold, filter_map, Option, Some, None, option_and_then, unwrap_or, slice_get, slice_set, slice_index_or, if◌then◌else◌}
 use Rattle.lg_verilog.specs.declared.expr.Expr.{Expr}
 use Rattle.lg_verilog.specs.declared.module.Assign.{Assign}
 use Rattle.lg_verilog.specs.declared.module.Stmt.{Stmt}
@@ -65,16 +65,25 @@ abbrev pub next_number : List (List ℕ) → List ℕ → Option Term × ℕ →
 next_number memories numbers (Some t, old) = term_number numbers memories t
 next_number memories numbers (None, old) = old
 
--- a memory after an edge
-abbrev pub next_words : List (List ℕ) → List ℕ → Option Write × List ℕ → List ℕ
-next_words memories numbers (None, old) = old
-next_words memories numbers (Some w, old) =
-    if term_number numbers memories w.condition == 0 then old
-    else slice_set old (term_number numbers memories w.place) (term_number numbers memories w.value)
+-- what is written into a memory: a place and a value
+abbrev pub written : List (List ℕ) → List ℕ → Option Write → Option (ℕ × ℕ)
+written memories numbers None = None
+written memories numbers (Some w) =
+    if term_number numbers memories w.condition == 0 then None else Some (term_number numbers memories w.place, term_number numbers memories w.value)
+
+-- a word at a place of one of the memories
+abbrev pub put_word : List (List ℕ) → ℕ → ℕ → ℕ → List (List ℕ)
+put_word memories memory place value = slice_set memories memory (slice_set (slice_index_or memories memory []) place value)
+
+-- words, each into the memory at its place
+abbrev pub put_words : ℕ → List (Option (ℕ × ℕ)) → List (List ℕ) → List (List ℕ)
+put_words at [] memories = memories
+put_words at (None ∷ words) memories = put_words (at + 1) words memories
+put_words at (Some (place, value) ∷ words) memories = put_words (at + 1) words (put_word memories at place value)
 
 -- registers and memories after an edge, where the equations have these numbers
 abbrev pub stored_by : Machine → List ℕ → Kept → Kept
 stored_by machine numbers kept = record {
   numbers = map (next_number kept.memories numbers) (zip machine.registers kept.numbers);
-  memories = map (next_words kept.memories numbers) (zip machine.memories kept.memories);
+  memories = put_words 0 (map (written kept.memories numbers) machine.memories) kept.memories;
 }
