@@ -1,0 +1,4 @@
+pub mod ShiftLemmas
+pub mod ExprInduction
+pub mod OperatorLemmas
+pub mod TermLemmas
