@@ -2,3 +2,4 @@ pub mod ShiftLemmas
 pub mod ExprInduction
 pub mod OperatorLemmas
 pub mod TermLemmas
+pub mod FitLemmas
