@@ -3,3 +3,4 @@ pub mod ExprInduction
 pub mod OperatorLemmas
 pub mod TermLemmas
 pub mod FitLemmas
+pub mod ResolvedLemmas
