@@ -20,7 +20,7 @@ use Rattle.lg_vmeaning.specs.Kept.{Kept}
 use Rattle.lg_vmeaning.specs.Meaning.{Valuation, operator_value, joined, memory_words, form_number}
 use Rattle.lg_vmeaning.proofs.ExprInduction.{parts, by_forms}
 use Rattle.lg_vmeaning.proofs.OperatorLemmas.{operator_within}
-use Rattle.lg_vmeaning.proofs.TermLemmas.{AtEach, at_one, at_left, at_right, names-roll, sized, sized-roll}
+use Rattle.lg_vmeaning.proofs.TermLemmas.{AtEach, at_one, at_left, at_right, at_three, names-roll, sized, sized-roll}
 
 -- a width of at most 128 bits, and a number that it can hold
 pub record IsWithin (w : ℕ) (p : ℕ × ℕ) : Type 0 where
@@ -188,19 +188,11 @@ module _ (width : List ℕ → ℕ) (words : List ℕ → List ℕ) (v : Valuati
           subst (λ n. IsWithin n (width name, slice_index_or (words name) (sized width words v e).1 0)) same
           (record { wide = refl; narrow = narrow name; within = word_within (words name) (sized width words v e).1 (width name) (words_within name) })
   fits_form (Expr-F.Join a b more) fits w e each =
-      let rest = flat_map (λ names. names) (map names_read more) in
-      let two = at_left Small (names_read a ++ names_read b) rest each in
-      let sum = at_most _ w e in
-      let first = sum_parts (expr_width width a) (sum_of (expr_width width b ∷ map (expr_width width) more)) w sum.0 in
-      let second = sum_parts (expr_width width b) (sum_of (map (expr_width width) more)) first.rest first.is_rest in
-      let high = fits.0 first.first first.is_first (at_left Small (names_read a) (names_read b) two) in
-      let low = fits.1.0 second.first second.is_first (at_right Small (names_read a) (names_read b) two) in
-      let most : w ≤ 128 = sum.1 in
-      let start = join_within first.first second.first (sized width words v a) (sized width words v b) (omega (arith, first.total, second.total, most)) high low in
-      let all = joined_within more fits.1.1 (first.first + second.first) second.rest (joined (sized width words v a) (sized width words v b)) second.is_rest
-      (omega (arith, first.total, second.total, most)) (at_right Small (names_read a ++ names_read b) rest each) start in
-      let total : first.first + second.first + second.rest ≡ w = omega (arith, first.total, second.total) in
-      subst (λ n. IsWithin n (fold joined (joined (sized width words v a) (sized width words v b)) (map (sized width words v) more))) total all
+      let names = at_three Small (names_read a) (names_read b) (flat_map (λ names. names) (map names_read more)) each in
+      let sum = at_most (sum_of (map (expr_width width) (a ∷ b ∷ more))) w e in
+      let s = sum_parts (expr_width width a) (sum_of (map (expr_width width) (b ∷ more))) w sum.0 in
+      subst (λ n. IsWithin n (fold joined (sized width words v a) (map (sized width words v) (b ∷ more)))) s.total
+      (joined_within (b ∷ more) fits.1 s.first s.rest (sized width words v a) s.is_rest (subst (λ n. n ≤ 128) (sym s.total) sum.1) names.1 (fits.0 s.first s.is_first names.0))
   fits_form (Expr-F.Not e) fits w is_width each =
       let inner = fits.0 w is_width each in
       let s = sized width words v e in
@@ -211,12 +203,12 @@ module _ (width : List ℕ → ℕ) (words : List ℕ → List ℕ) (v : Valuati
       binary_within op left.0 right.0 w (sized width words v a) (sized width words v b) right.2
       (fits.0 left.0 left.1 (at_left Small (names_read a) (names_read b) each)) (fits.1.0 right.0 right.1 (at_right Small (names_read a) (names_read b) each))
   fits_form (Expr-F.Choice c a b) fits w e each =
-      let two = at_left Small (names_read c ++ names_read a) (names_read b) each in
+      let names = (at_three Small (names_read c) (names_read a) (names_read b) each).1 in
       let condition = bound (expr_width width c) _ w e in
       let first = bound (expr_width width a) _ w condition.2 in
       let second = bound (expr_width width b) _ w first.2 in
       choice_within condition.0 first.0 second.0 w (sized width words v c) (sized width words v a) (sized width words v b) second.2
-      (fits.1.0 first.0 first.1 (at_right Small (names_read c) (names_read a) two)) (fits.1.1.0 second.0 second.1 (at_right Small (names_read c ++ names_read a) (names_read b) each))
+      (fits.1.0 first.0 first.1 (at_left Small (names_read a) (names_read b) names)) (fits.1.1.0 second.0 second.1 (at_right Small (names_read a) (names_read b) names))
 
   pub all_fit : (e : Expr) → Fits e
   all_fit = by_forms Fits (λ f fits w e each.

@@ -26,7 +26,7 @@ use Rattle.lg_vmeaning.specs.Resolved.{place_or_0, resolved_part, resolved_join,
 use Rattle.lg_vmeaning.proofs.ShiftLemmas.{below_more}
 use Rattle.lg_vmeaning.proofs.ExprInduction.{parts, by_forms}
 use Rattle.lg_vmeaning.proofs.OperatorLemmas.{wide_is}
-use Rattle.lg_vmeaning.proofs.TermLemmas.{AtEach, at_one, at_left, at_right, names-roll, sized, sized-roll}
+use Rattle.lg_vmeaning.proofs.TermLemmas.{AtEach, at_one, at_left, at_right, at_three, names-roll, sized, sized-roll}
 use Rattle.lg_vmeaning.proofs.FitLemmas.{IsWithin, both, bound, where-some, SumParts, sum_parts, at_most, part_places, join_within, same_width, all_fit}
 
 module _ (numbers : List ℕ) (memories : List (List ℕ)) where
@@ -171,24 +171,13 @@ module _ (numbers : List ℕ) (memories : List (List ℕ)) where
               ∙ (λ i. slice_index_or (words_at name declared.0 i) ((right.0 declared.1 k is each).1.same i) 0);
         }
     right_form (Expr-F.Join a b more) right reads w e each =
-        let outer = both (reads_declared sort a) (reads_declared sort b && list_all (λ e. e) (map (reads_declared sort) more)) reads in
-        let inner = both (reads_declared sort b) (list_all (λ e. e) (map (reads_declared sort) more)) outer.1 in
-        let rest = flat_map (λ names. names) (map names_read more) in
-        let two = at_left IsPlaced (names_read a ++ names_read b) rest each in
-        let sum = at_most (sum_of (expr_width width a ∷ expr_width width b ∷ map (expr_width width) more)) w e in
-        let first = sum_parts (expr_width width a) (sum_of (expr_width width b ∷ map (expr_width width) more)) w sum.0 in
-        let second = sum_parts (expr_width width b) (sum_of (map (expr_width width) more)) first.rest first.is_rest in
-        let high = right.0 outer.0 first.first first.is_first (at_left IsPlaced (names_read a) (names_read b) two) in
-        let low = right.1.0 inner.0 second.first second.is_first (at_right IsPlaced (names_read a) (names_read b) two) in
-        let most : w ≤ 128 = sum.1 in
-        let total : first.first + second.first + second.rest ≡ w = omega (arith, first.total, second.total) in
-        let fitting : first.first + second.first ≤ 128 = omega (arith, total, most) in
-        let fitting_all : first.first + second.first + second.rest ≤ 128 = omega (arith, total, most) in
-        let all = joined_right more right.1.1 inner.1 (first.first + second.first) second.rest (joined (number a) (number b)) (resolved_join (turned a) (turned b)) second.is_rest fitting_all
-        (at_right IsPlaced (names_read a ++ names_read b) rest each)
-        (join_within first.first second.first (number a) (number b) fitting high.0 low.0)
-        (computes_join first.first second.first (number a) (number b) (turned a) (turned b) fitting high.0 low.0 high.1 low.1) in
-        subst (λ n. Computes n (fold joined (joined (number a) (number b)) (map number more)).1 (fold resolved_join (resolved_join (turned a) (turned b)) (map turned more))) total all
+        let names = at_three IsPlaced (names_read a) (names_read b) (flat_map (λ names. names) (map names_read more)) each in
+        let declared = both (reads_declared sort a) (list_all (λ e. e) (map (reads_declared sort) (b ∷ more))) reads in
+        let sum = at_most (sum_of (map (expr_width width) (a ∷ b ∷ more))) w e in
+        let s = sum_parts (expr_width width a) (sum_of (map (expr_width width) (b ∷ more))) w sum.0 in
+        let high = right.0 declared.0 s.first s.is_first names.0 in
+        subst (λ n. Computes n (fold joined (number a) (map number (b ∷ more))).1 (fold resolved_join (turned a) (map turned (b ∷ more)))) s.total
+        (joined_right (b ∷ more) right.1 declared.1 s.first s.rest (number a) (turned a) s.is_rest (subst (λ n. n ≤ 128) (sym s.total) sum.1) names.1 high.0 high.1)
     right_form (Expr-F.Not e) right reads w is_width each =
         let inner = right.0 reads w is_width each in
         computes_not w (number e) (turned e) inner.0 inner.1
@@ -202,14 +191,14 @@ module _ (numbers : List ℕ) (memories : List (List ℕ)) where
     right_form (Expr-F.Choice c a b) right reads w e each =
         let outer = both (reads_declared sort c) (reads_declared sort a && reads_declared sort b) reads in
         let inner = both (reads_declared sort a) (reads_declared sort b) outer.1 in
-        let two = at_left IsPlaced (names_read c ++ names_read a) (names_read b) each in
+        let names = at_three IsPlaced (names_read c) (names_read a) (names_read b) each in
         let condition = bound (expr_width width c) _ w e in
         let first = bound (expr_width width a) _ w condition.2 in
         let second = bound (expr_width width b) _ w first.2 in
         computes_choice condition.0 first.0 second.0 w (number c).1 (number a) (number b) (turned c) (turned a) (turned b) second.2
-        (right.0 outer.0 condition.0 condition.1 (at_left IsPlaced (names_read c) (names_read a) two)).1
-        (right.1.0 inner.0 first.0 first.1 (at_right IsPlaced (names_read c) (names_read a) two)).1
-        (right.1.1.0 inner.1 second.0 second.1 (at_right IsPlaced (names_read c ++ names_read a) (names_read b) each)).1
+        (right.0 outer.0 condition.0 condition.1 names.0).1
+        (right.1.0 inner.0 first.0 first.1 (at_left IsPlaced (names_read a) (names_read b) names.1)).1
+        (right.1.1.0 inner.1 second.0 second.1 (at_right IsPlaced (names_read a) (names_read b) names.1)).1
 
     pub all_right : (e : Expr) → IsRight e
     all_right = by_forms IsRight (λ f right reads w e each.

@@ -1,5 +1,5 @@
 -- The numbers of expressions: which names they come from.
-use Rattle.std.proofs.Common.{◌≡◌, ℕ, zero, ◌+◌, ◌-◌, ◌/◌, ◌%◌, ◌^◌, ◌<◌, nat_eq, cond, List, [], ◌∷◌, ◌++◌, map, refl, sym, ap, subst, ◌∙◌, arith, slice_index_or}
+use Rattle.std.proofs.Common.{◌≡◌, ℕ, zero, ◌+◌, ◌-◌, ◌/◌, ◌%◌, ◌^◌, ◌<◌, nat_eq, cond, List, [], ◌∷◌, ◌++◌, map, append_assoc, refl, sym, ap, subst, ◌∙◌, arith, slice_index_or}
 use Rattle.std.specs.Prelude.{Contains, fold}
 use Rattle.std.specs.Int.{bit_at}
 use Rattle.std.specs.List.{AllByRecursion, flat_map}
@@ -27,6 +27,13 @@ at_left P some others each = λ name here. each name (Contains-append_left some 
 
 pub at_right : (P : List ℕ → Type 0) (some others : List (List ℕ)) → AtEach P (some ++ others) → AtEach P others
 at_right P some others each = λ name here. each name (Contains-append_right some others name here)
+
+-- of names in a row of three parts, those of the first and those of the others
+pub at_three : (P : List ℕ → Type 0) (first second third : List (List ℕ)) → AtEach P (first ++ second ++ third) → AtEach P first × AtEach P (second ++ third)
+at_three P first second third each = (
+    at_left P first second (at_left P (first ++ second) third each),
+    at_right P first (second ++ third) (subst (AtEach P) (append_assoc first second third) each)
+)
 
 pub names-roll : (f : Expr-F Expr) → names_read (roll-Expr f) ≡ form_names (map-Expr Expr (List (List ℕ)) names_read f)
 names-roll f = fold-roll-Expr (List (List ℕ)) form_names f
@@ -60,22 +67,16 @@ module _ (width : List ℕ → ℕ) (words : List ℕ → List ℕ) (v w : Valua
   same_form (Expr-F.Part name high low) same each = ap (λ n. (high + 1 - low, (n / 2 ^ low) % 2 ^ (high + 1 - low))) (at_one Agree name each)
   same_form (Expr-F.Item name e) same each = ap (λ (p : ℕ × ℕ). (width name, slice_index_or (words name) p.1 0)) (same.0 each)
   same_form (Expr-F.Join a b more) same each =
-      let rest = flat_map (λ names. names) (map names_read more) in
-      let two = at_left Agree (names_read a ++ names_read b) rest each in
-      λ i. fold joined
-      (joined (same.0 (at_left Agree (names_read a) (names_read b) two) i) (same.1.0 (at_right Agree (names_read a) (names_read b) two) i))
-      (same_list more same.1.1 (at_right Agree (names_read a ++ names_read b) rest each) i)
+      let names = at_three Agree (names_read a) (names_read b) (flat_map (λ names. names) (map names_read more)) each in
+      λ i. fold joined (same.0 names.0 i) (same_list (b ∷ more) same.1 names.1 i)
   same_form (Expr-F.Not e) same each = ap (λ (p : ℕ × ℕ). (p.0, 2 ^ p.0 - 1 - p.1)) (same.0 each)
   same_form (Expr-F.Binary a op b) same each =
       ap (λ (p : (ℕ × ℕ) × (ℕ × ℕ)). (operator_width op p.0.0, operator_value op p.0.0 p.0.1 p.1.1))
       (λ i. (same.0 (at_left Agree (names_read a) (names_read b) each) i, same.1.0 (at_right Agree (names_read a) (names_read b) each) i))
   same_form (Expr-F.Choice c a b) same each =
-      let two = at_left Agree (names_read c ++ names_read a) (names_read b) each in
+      let names = at_three Agree (names_read c) (names_read a) (names_read b) each in
       ap (λ (p : (ℕ × ℕ) × ((ℕ × ℕ) × (ℕ × ℕ))). (p.1.0.0, cond (nat_eq p.0.1 0) p.1.1.1 p.1.0.1))
-      (λ i. (
-        same.0 (at_left Agree (names_read c) (names_read a) two) i,
-        (same.1.0 (at_right Agree (names_read c) (names_read a) two) i, same.1.1.0 (at_right Agree (names_read c ++ names_read a) (names_read b) each) i),
-      ))
+      (λ i. (same.0 names.0 i, (same.1.0 (at_left Agree (names_read a) (names_read b) names.1) i, same.1.1.0 (at_right Agree (names_read a) (names_read b) names.1) i)))
 
   pub same_sized : (e : Expr) → IsSame e
   same_sized = by_forms IsSame (λ f same each. sized-roll width words v f ∙ (same_form f same (subst (AtEach Agree) (names-roll f) each) ∙ sym (sized-roll width words w f)))

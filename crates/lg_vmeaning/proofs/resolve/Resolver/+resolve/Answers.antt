@@ -20,9 +20,9 @@ resolve-returns-in_ok-joined-in-Join t c =
     let width = width_under c.args.self.now.names.now in
     let place = place_under c.args.self.now.numbers.now in
     let memory = place_under c.args.self.now.memories.now in
-    let R = resolved width place memory in
-    let first = c.in_ok-first-in-Join.ensures ∙ ap R c.get-in-Join.ensures in
-    let second = c.in_ok-second-in-Join.ensures ∙ ap R c.get-in-Join-2.ensures in
+    let turned = resolved width place memory in
+    let first = c.in_ok-first-in-Join.ensures ∙ ap turned c.get-in-Join.ensures in
+    let second = c.in_ok-second-in-Join.ensures ∙ ap turned c.get-in-Join-2.ensures in
     let start = c.in_ok-joined-in-Join.ensures ∙ (λ i. resolved_join (first i) (second i)) in
-    let whole = (λ i. fold resolved_join (start i) (map R (c.as_slice.ensures i))) ∙ (resolved-Join width place memory c.in-Join.first c.in-Join.second c.in-Join.more ∙ ap R (sym c.in-Join.is)) in
+    let whole = (λ i. fold resolved_join (start i) (map turned (c.as_slice.ensures i))) ∙ (resolved-Join width place memory c.in-Join.first c.in-Join.second c.in-Join.more ∙ ap turned (sym c.in-Join.is)) in
     subst (λ x. IfOk c.join_all.result (λ r. r ≡ x)) whole c.join_all.ensures
