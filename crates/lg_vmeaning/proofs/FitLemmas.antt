@@ -1,5 +1,5 @@
 -- The numbers of expressions fit the widths that the rules give them.
-use Rattle.std.proofs.Common.{◌≡◌, ℕ, zero, suc, ◌+◌, ◌-◌, ◌*◌, ◌/◌, ◌%◌, ◌^◌, ◌<◌, ◌≤◌, nat_eq, nat_lt, nat_le, Bool, true, false, ◌&&◌, ◌||◌, cond, List, [], ◌∷◌, ◌++◌, map, Option, Some, None, refl, sym, ap, subst, ◌∙◌, arith, rules, slice_index_or, pow_pos, bit_xor}
+use Rattle.std.proofs.Common.{◌≡◌, ℕ, zero, suc, ◌+◌, ◌-◌, ◌*◌, ◌/◌, ◌%◌, ◌^◌, ◌<◌, ◌≤◌, nat_eq, nat_lt, nat_le, Bool, true, false, ◌&&◌, ◌||◌, cond, List, [], ◌∷◌, map, Option, Some, None, refl, sym, ap, subst, ◌∙◌, arith, rules, slice_index_or, pow_pos}
 use Rattle.std.specs.Prelude.{Contains, fold, option_map, option_and_then}
 use Rattle.std.specs.Int.{bit_at}
 use Rattle.std.specs.List.{AllByRecursion, flat_map}
@@ -9,7 +9,7 @@ use Rattle.std.proofs.lemmas.Nat.Bits.{bit_at-lt}
 use Rattle.lg_verilog.specs.declared.expr.Constant.{Constant}
 use Rattle.lg_verilog.specs.declared.expr.Operator.{Operator}
 use Rattle.lg_verilog.specs.declared.expr.Operator.TheVariants as operator
-use Rattle.lg_verilog.specs.declared.expr.Expr.{Expr, fold-Expr, roll-Expr}
+use Rattle.lg_verilog.specs.declared.expr.Expr.{Expr}
 use Rattle.lg_verilog.specs.declared.expr.Expr.TheFolds.{map-Expr, fold-roll-Expr}
 use Rattle.lg_verilog.specs.declared.expr.Expr.TheOpen.{Expr-F}
 use Rattle.lg_verilog.specs.declared.module.Module.{Module}

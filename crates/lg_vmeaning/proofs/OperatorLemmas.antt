@@ -1,5 +1,5 @@
 -- Operations: what 128 bits and a cut give is the operation's number, which its width can hold.
-use Rattle.std.proofs.Common.{◌≡◌, ℕ, ◌+◌, ◌-◌, ◌*◌, ◌/◌, ◌%◌, ◌^◌, ◌<◌, ◌≤◌, nat_eq, nat_lt, Bool, true, false, ◌||◌, bit_and, bit_or, bit_xor, refl, sym, ap, subst, ◌∙◌, arith, rules, pow_pos}
+use Rattle.std.proofs.Common.{◌≡◌, ℕ, ◌+◌, ◌-◌, ◌*◌, ◌%◌, ◌^◌, ◌<◌, ◌≤◌, nat_eq, nat_lt, Bool, true, false, refl, ap, ◌∙◌, arith, pow_pos}
 use Rattle.std.proofs.lemmas.Nat.{or_lt, xor_lt, shr_le, and_le_l, pow-add}
 use Rattle.std.proofs.Math.Nat.{mod-le, mod-lt, div-le_self, add-mul-mod_self_right}
 use Rattle.std.proofs.Math.Pow.{mod-mod-pow}

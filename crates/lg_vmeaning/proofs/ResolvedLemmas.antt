@@ -1,19 +1,19 @@
 -- What a resolved expression computes is the number of the expression.
-use Rattle.std.proofs.Common.{◌≡◌, ℕ, zero, suc, ◌+◌, ◌-◌, ◌*◌, ◌/◌, ◌%◌, ◌^◌, ◌<◌, ◌≤◌, min, nat_eq, nat_lt, nat_le, Bool, true, false, ◌&&◌, ◌||◌, cond, List, [], ◌∷◌, ◌++◌, map, Option, Some, None, refl, sym, ap, subst, ◌∙◌, arith, rules, slice_index_or, pow_pos}
-use Rattle.std.specs.Prelude.{Contains, fold, option_map, option_and_then}
+use Rattle.std.proofs.Common.{◌≡◌, ℕ, ◌+◌, ◌-◌, ◌*◌, ◌/◌, ◌%◌, ◌^◌, ◌<◌, ◌≤◌, min, nat_eq, nat_lt, nat_le, Bool, true, ◌&&◌, ◌||◌, cond, List, [], ◌∷◌, map, Option, Some, None, refl, sym, ap, subst, ◌∙◌, arith, slice_index_or}
+use Rattle.std.specs.Prelude.{Contains, fold, option_map}
 use Rattle.std.specs.Int.{bit_at}
 use Rattle.std.specs.List.{AllByRecursion, flat_map, list_all}
 use Rattle.std.proofs.Math.Nat.{mod-eq_of_lt}
 use Rattle.lg_verilog.specs.declared.expr.Operator.{Operator}
-use Rattle.lg_verilog.specs.declared.expr.Expr.{Expr, fold-Expr, roll-Expr}
+use Rattle.lg_verilog.specs.declared.expr.Expr.{Expr, roll-Expr}
 use Rattle.lg_verilog.specs.declared.expr.Expr.TheFolds.{map-Expr, fold-roll-Expr}
 use Rattle.lg_verilog.specs.declared.expr.Expr.TheOpen.{Expr-F}
 use Rattle.lg_verilog.specs.declared.module.Module.{Module}
 use Rattle.lg_vrules.specs.declared.names.Sort.{Sort}
-use Rattle.lg_vrules.specs.Things.{width_of, sort_of, is_memory, is_readable}
-use Rattle.lg_vrules.specs.Rules.{is_of, form_reads, reads_declared, operator_width, is_shift, sum_of, where_, at_most_128, binary_width, choice_width, constant_fits, form_width, expr_width}
+use Rattle.lg_vrules.specs.Things.{width_of, sort_of, is_memory}
+use Rattle.lg_vrules.specs.Rules.{is_of, form_reads, reads_declared, operator_width, is_shift, sum_of, binary_width, choice_width, constant_fits, form_width, expr_width}
 use Rattle.lg_vrules.specs.Depends.{form_names, names_read}
-use Rattle.lg_vmeaning.specs.declared.term.Term.{Term, fold-Term, roll-Term}
+use Rattle.lg_vmeaning.specs.declared.term.Term.{Term, roll-Term}
 use Rattle.lg_vmeaning.specs.declared.term.Term.TheFolds.{map-Term, fold-roll-Term}
 use Rattle.lg_vmeaning.specs.declared.term.Term.TheOpen.{Term-F}
 use Rattle.lg_vmeaning.specs.declared.term.Term.TheVariants.{rolls-Const, rolls-Number, rolls-Part, rolls-Item, rolls-Join, rolls-Not, rolls-Binary, rolls-Choice}
@@ -27,7 +27,7 @@ use Rattle.lg_vmeaning.proofs.ShiftLemmas.{below_more}
 use Rattle.lg_vmeaning.proofs.ExprInduction.{parts, by_forms}
 use Rattle.lg_vmeaning.proofs.OperatorLemmas.{wide_is}
 use Rattle.lg_vmeaning.proofs.TermLemmas.{AtEach, at_one, at_left, at_right, at_three, names-roll, sized, sized-roll}
-use Rattle.lg_vmeaning.proofs.FitLemmas.{IsWithin, both, bound, where-some, SumParts, sum_parts, at_most, part_places, join_within, same_width, all_fit}
+use Rattle.lg_vmeaning.proofs.FitLemmas.{IsWithin, both, bound, where-some, sum_parts, at_most, part_places, join_within, same_width, all_fit}
 
 module _ (numbers : List ℕ) (memories : List (List ℕ)) where
   abbrev pub computed : Term → ℕ

@@ -1,5 +1,5 @@
 -- The numbers of expressions: which names they come from.
-use Rattle.std.proofs.Common.{◌≡◌, ℕ, zero, ◌+◌, ◌-◌, ◌/◌, ◌%◌, ◌^◌, ◌<◌, nat_eq, cond, List, [], ◌∷◌, ◌++◌, map, append_assoc, refl, sym, ap, subst, ◌∙◌, arith, slice_index_or}
+use Rattle.std.proofs.Common.{◌≡◌, ℕ, ◌+◌, ◌-◌, ◌/◌, ◌%◌, ◌^◌, nat_eq, cond, List, [], ◌∷◌, ◌++◌, map, append_assoc, refl, sym, ap, subst, ◌∙◌, arith, slice_index_or}
 use Rattle.std.specs.Prelude.{Contains, fold}
 use Rattle.std.specs.Int.{bit_at}
 use Rattle.std.specs.List.{AllByRecursion, flat_map}
@@ -31,8 +31,8 @@ at_right P some others each = λ name here. each name (Contains-append_right som
 -- of names in a row of three parts, those of the first and those of the others
 pub at_three : (P : List ℕ → Type 0) (first second third : List (List ℕ)) → AtEach P (first ++ second ++ third) → AtEach P first × AtEach P (second ++ third)
 at_three P first second third each = (
-    at_left P first second (at_left P (first ++ second) third each),
-    at_right P first (second ++ third) (subst (AtEach P) (append_assoc first second third) each)
+  at_left P first second (at_left P (first ++ second) third each),
+  at_right P first (second ++ third) (subst (AtEach P) (append_assoc first second third) each),
 )
 
 pub names-roll : (f : Expr-F Expr) → names_read (roll-Expr f) ≡ form_names (map-Expr Expr (List (List ℕ)) names_read f)
