@@ -4,3 +4,4 @@ pub mod OperatorLemmas
 pub mod TermLemmas
 pub mod FitLemmas
 pub mod ResolvedLemmas
+pub mod ReadLemmas
