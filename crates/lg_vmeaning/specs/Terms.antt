@@ -19,7 +19,7 @@ wide_operation operator.Add width a b = (a + b) % 2 ^ 128 % 2 ^ width
 wide_operation operator.Subtract width a b = (a + 2 ^ 128 - b) % 2 ^ 128 % 2 ^ width
 wide_operation operator.Multiply width a b = (a * b) % 2 ^ 128 % 2 ^ width
 wide_operation operator.Divide width a b = a / b
-wide_operation operator.Remainder width a b = if b == 0 then 0 else a % b
+wide_operation operator.Remainder width a b = a % b
 wide_operation operator.Equal width a b = number_of_test (a == b)
 wide_operation operator.Less width a b = number_of_test (nat_lt a b)
 wide_operation operator.ShiftLeft width a b = (a * 2 ^ b) % 2 ^ 128 % 2 ^ width

@@ -139,7 +139,12 @@ impl Resolved {
         })
     }
 
-    fn with(self, alloc: Global, operator: Operator, right: Resolved) -> Result<Resolved, AllocError>
+    fn with(
+        self,
+        alloc: Global,
+        operator: Operator,
+        right: Resolved,
+    ) -> Result<Resolved, AllocError>
         ensures { IfOk result (λ r. r ≡ resolved_binary self operator right) }
     {
         Ok(Resolved {
@@ -154,7 +159,12 @@ impl Resolved {
     }
 
     // The first where this is not 0, else the second.
-    fn choose(self, alloc: Global, first: Resolved, second: Resolved) -> Result<Resolved, AllocError>
+    fn choose(
+        self,
+        alloc: Global,
+        first: Resolved,
+        second: Resolved,
+    ) -> Result<Resolved, AllocError>
         ensures { IfOk result (λ r. r ≡ resolved_choice self first second) }
     {
         Ok(Resolved {

@@ -80,8 +80,9 @@ fn word_at(memories: &[Items<u128>], memory: usize, place: u128) -> u128
     let Some(words) = memories.get(memory) else {
         return 0;
     };
+    let words = words.as_slice();
     match usize::try_from(place) {
-        Ok(place) => number_at(words.as_slice(), place),
+        Ok(place) => number_at(words, place),
         Err(_) => 0,
     }
 }
