@@ -1,19 +1,20 @@
 -- What an index of a module's names tells is what the module declares.
-use Rattle.std.proofs.Common.{◌≡◌, ℕ, ◌≤◌, Bool, true, false, cond, ◌&&◌, List, [], ◌∷◌, map, Option, Some, None, refl, sym, subst, ◌∙◌, arith, rules}
+use Rattle.std.proofs.Common.{◌≡◌, ℕ, ◌+◌, ◌≤◌, Bool, true, false, cond, ◌&&◌, List, [], ◌∷◌, map, Option, Some, None, refl, sym, subst, ◌∙◌, arith, rules}
 use Rattle.std.specs.Prelude.{nat_le, option_map, unwrap_or}
 use Rattle.std.specs.List.{list_all}
 use Rattle.std.specs.Map.{lookup}
 use Rattle.std.specs.Str.{bytes_eq}
 use Rattle.std.proofs.lemmas.Bool.{and_parts}
 use Rattle.std.proofs.lemmas.List.Folds.{list_all-append, list_all-map}
+use Rattle.lg_verilog.specs.declared.module.Assign.{Assign}
 use Rattle.lg_verilog.specs.declared.module.Module.{Module}
 use Rattle.lg_vrules.specs.declared.names.Sort.{Sort}
 use Rattle.lg_vrules.specs.declared.names.Sort.TheVariants as sort
 use Rattle.lg_vrules.specs.declared.names.Thing.{Thing}
 use Rattle.lg_vrules.specs.declared.names.Names.{Names}
 use Rattle.lg_vrules.specs.Things.{range_width}
-use Rattle.lg_vrules.specs.Things.{things, port_thing, decl_thing, sort_of, width_of}
-use Rattle.lg_vrules.specs.Rules.{most_bits, is_narrow, are_narrow, first_false, are_fitting, are_used, are_assigned_once, are_kept_once, are_indexed}
+use Rattle.lg_vrules.specs.Things.{is_assignable, things, port_thing, decl_thing, sort_of, width_of}
+use Rattle.lg_vrules.specs.Rules.{most_bits, is_narrow, are_narrow, first_false, are_fitting, are_used, are_assigned_once, are_kept_once, are_indexed, are_named, are_divided_safely, first_broken, all_differ, assigned, is_of, has_each, is_among}
 use Rattle.lg_vrules.specs.Known.{sort_under, width_under, KnowsThings, AreNarrow}
 
 pub sort_is : (m : Module) (index : Names) → KnowsThings (things m) index → sort_under index ≡ sort_of m
@@ -62,12 +63,14 @@ narrow_under (t ∷ some) name e =
     step true rest h k = h
     step false rest h k = k
 
-pub narrow_names : (m : Module) (index : Names) → KnowsThings (things m) index → are_narrow m ≡ true → AreNarrow index
-narrow_names m index knows e = λ name.
-    subst (λ (width : List ℕ → ℕ). width name ≤ 128) (sym (width_is m index knows)) (narrow_under (things m) name all)
+pub narrow_widths : (m : Module) → are_narrow m ≡ true → (name : List ℕ) → width_of m name ≤ 128
+narrow_widths m e = λ name. narrow_under (things m) name all
   where
     all : list_all is_narrow (things m) ≡ true
     all = list_all-append is_narrow (map port_thing m.ports) (map decl_thing m.decls) ∙ (rw (list_all-map is_narrow port_thing m.ports, list_all-map is_narrow decl_thing m.decls) e)
+
+pub narrow_names : (m : Module) (index : Names) → KnowsThings (things m) index → are_narrow m ≡ true → AreNarrow index
+narrow_names m index knows e = λ name. subst (λ (width : List ℕ → ℕ). width name ≤ 128) (sym (width_is m index knows)) (narrow_widths m e name)
 
 -- tests of which one does not hold
 
