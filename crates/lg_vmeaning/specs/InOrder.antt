@@ -1,12 +1,12 @@
 -- Equations that stand in order: each reads only names that are known before it, and gives a number to a new one.
-use Rattle.std.specs.Prelude.{◌≡◌, ◌<◌, ◌^◌, ℕ, List, [], ◌∷◌, ◌++◌, ◌⊎◌, ◌↔◌, map, Contains}
+use Rattle.std.specs.Prelude.{filter_map, slice_get, ◌≡◌, ◌<◌, ◌^◌, ℕ, List, [], ◌∷◌, ◌++◌, ◌⊎◌, ◌↔◌, map, Contains}
 use Rattle.std.specs.List.{AllByRecursion}
 use Rattle.lg_verilog.specs.declared.expr.Expr.{Expr}
 use Rattle.lg_verilog.specs.declared.module.Assign.{Assign}
 use Rattle.lg_verilog.specs.declared.module.Module.{Module}
 use Rattle.lg_vrules.specs.Things.{width_of, lines_of, names_of, is_input, is_reg, is_readable}
-use Rattle.lg_vmeaning.specs.Kept.{Kept}
-use Rattle.lg_vmeaning.specs.Meaning.{Valuation, number_of}
+use Rattle.lg_vmachine.specs.Kept.{Kept}
+use Rattle.lg_vmachine.specs.Meaning.{Valuation, number_of}
 
 -- the name is one of these
 abbrev pub IsIn : List (List ℕ) → List ℕ → Type 0
@@ -56,3 +56,7 @@ pub record AreOrdered (m : Module) (kept : Kept) (order : List Assign) : Type 0 
   pub same : (a : Assign) → Contains m.assigns a ↔ Contains order a
   -- each name that has a number is known or given one, and its width is that of its line
   pub all_given : AllByRecursion (λ (l : List ℕ × ℕ). IsGiven (sources m) order l.0 × (width_of m l.0 ≡ l.1)) (lines_of is_readable m)
+
+-- the assigns at these places
+abbrev pub ordered : Module → List ℕ → List Assign
+ordered m order = filter_map (slice_get m.assigns) order

@@ -2,9 +2,11 @@
 #![tactic(auto)]
 
 mod arithmetic;
+mod lines;
 mod machine;
 mod regs;
 mod resolve;
 mod term;
 
+pub use lines::PortLine;
 pub use regs::Regs;

@@ -62,7 +62,7 @@ in_places place (n ∷ some) name k c e = elim (cons_cases n name some c) [
   | inr later ↦ Contains-append_right (place_list (place n)) (places_of place some) k (in_places place some name k later e)
 ]
 
-place_tells : (n : ℕ) (ns : List (List ℕ)) (name : List ℕ) (k : ℕ) → place_from n ns name ≡ Some k → (j : ℕ) × (k ≡ n + j) × (slice_get ns j ≡ Some name)
+pub place_tells : (n : ℕ) (ns : List (List ℕ)) (name : List ℕ) (k : ℕ) → place_from n ns name ≡ Some k → (j : ℕ) × (k ≡ n + j) × (slice_get ns j ≡ Some name)
 place_tells n [] name k e = absurd (cc e)
 place_tells n (o ∷ ns) name k e = step (bytes_eq o name) refl e (λ f. place_tells (n + 1) ns name k f)
   where
@@ -116,7 +116,7 @@ first_is n (false ∷ marks) at e =
     before j f zero less = refl
     before j f (suc i) less = f i (omega (arith, less))
 
-assign_at : (assigns : List Assign) (i : ℕ) → i < length assigns → (a : Assign) × (slice_get assigns i ≡ Some a)
+pub assign_at : (assigns : List Assign) (i : ℕ) → i < length assigns → (a : Assign) × (slice_get assigns i ≡ Some a)
 assign_at [] i lt = absurd (omega (arith, lt))
 assign_at (a ∷ assigns) zero lt = (a, refl)
 assign_at (a ∷ assigns) (suc i) lt = assign_at assigns i (omega (arith, lt))
@@ -145,7 +145,7 @@ module _ (m : Module) (differ : all_differ (names m.assigns) ≡ true) where
   placed : (i : ℕ) (a : Assign) → At i a → place a.name ≡ Some i
   placed i a e = place_back 0 (names m.assigns) i a.name differ (slice_get-map (λ (a : Assign). a.name) m.assigns i ∙ ap (option_map (λ (a : Assign). a.name)) e) ∙ (let none : 0 + i ≡ i = omega arith in ap Some none)
 
-  same_place : (i k : ℕ) (a b : Assign) → At i a → At k b → a.name ≡ b.name → (i ≡ k) × (a ≡ b)
+  pub same_place : (i k : ℕ) (a b : Assign) → At i a → At k b → a.name ≡ b.name → (i ≡ k) × (a ≡ b)
   same_place i k a b e f same =
       let at : i ≡ k = same_Some i k (sym (placed i a e) ∙ (ap place same ∙ placed k b f)) in
       (at, same_Some a b (sym e ∙ (ap (slice_get m.assigns) at ∙ f)))

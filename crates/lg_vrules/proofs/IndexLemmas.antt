@@ -63,12 +63,14 @@ narrow_under (t ∷ some) name e =
     step true rest h k = h
     step false rest h k = k
 
-pub narrow_names : (m : Module) (index : Names) → KnowsThings (things m) index → are_narrow m ≡ true → AreNarrow index
-narrow_names m index knows e = λ name.
-    subst (λ (width : List ℕ → ℕ). width name ≤ 128) (sym (width_is m index knows)) (narrow_under (things m) name all)
+pub narrow_widths : (m : Module) → are_narrow m ≡ true → (name : List ℕ) → width_of m name ≤ 128
+narrow_widths m e = λ name. narrow_under (things m) name all
   where
     all : list_all is_narrow (things m) ≡ true
     all = list_all-append is_narrow (map port_thing m.ports) (map decl_thing m.decls) ∙ (rw (list_all-map is_narrow port_thing m.ports, list_all-map is_narrow decl_thing m.decls) e)
+
+pub narrow_names : (m : Module) (index : Names) → KnowsThings (things m) index → are_narrow m ≡ true → AreNarrow index
+narrow_names m index knows e = λ name. subst (λ (width : List ℕ → ℕ). width name ≤ 128) (sym (width_is m index knows)) (narrow_widths m e name)
 
 -- tests of which one does not hold
 

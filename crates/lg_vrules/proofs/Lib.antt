@@ -1,5 +1,5 @@
 mod DivisorLemmas
-mod GraphLemmas
+pub mod GraphLemmas
 pub mod IndexLemmas
 mod IndexWidthLemmas
 mod InsideLemmas

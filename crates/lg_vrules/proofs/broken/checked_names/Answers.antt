@@ -1,4 +1,4 @@
-use Rattle.std.proofs.Common.{◌≡◌, List, true, sym, subst, ◌∙◌}
+use Rattle.std.proofs.Common.{sym, subst, ◌∙◌}
 use Rattle.lg_vrules.specs.Known.{KnowsThings, IsIndex}
 use Rattle.lg_vrules.specs.Things.{things}
 use Rattle.lg_vrules.proofs.IndexLemmas.{narrow_names}

@@ -1,14 +1,12 @@
-use Rattle.std.proofs.Common.{◌≡◌, ℕ, true, List, Option, Some, None, map, sym, ap, subst, ◌∙◌, Bor}
-use Rattle.lg_graph.specs.declared.sorting.Sorted.{Sorted}
+use Rattle.std.proofs.Common.{◌≡◌, ℕ, true, List, None, map, sym, ap, subst, ◌∙◌, Bor}
 use Rattle.lg_graph.specs.Graph.{Graph, IsGraph, IsSorted}
 use Rattle.lg_verilog.specs.declared.module.Assign.{Assign}
 use Rattle.lg_verilog.specs.declared.module.Module.{Module}
 use Rattle.lg_vrules.specs.declared.places.Places.{Places}
-use Rattle.lg_vrules.specs.declared.depends.Dependence.{Dependence}
-use Rattle.lg_vrules.specs.declared.depends.Dependence.TheVariants.{Ordered, Cyclic}
+use Rattle.lg_vrules.specs.declared.depends.Dependence.TheVariants.{Ordered}
 use Rattle.lg_vrules.specs.Rules.{all_differ}
-use Rattle.lg_vrules.specs.Depends.{names_read, IsAcyclic, IsFirstCyclic}
-use Rattle.lg_vrules.specs.Order.{IsDependence, IsOrder}
+use Rattle.lg_vrules.specs.Depends.{names_read}
+use Rattle.lg_vrules.specs.Order.{IsDependence}
 use Rattle.lg_vrules.specs.Places.{place_under, place_from, places_of, first_marked_from, KnowsPlaces}
 use Rattle.lg_vrules.proofs.GraphLemmas.{names, graph, is_graph, tells_none, tells_first, tells_order}
 use Rattle.lg_vrules.proofs.depends.assign_order.Goals.{in-Some, in-None}

@@ -4,9 +4,9 @@ use Rattle.lg_verilog.specs.declared.expr.Operator.{Operator}
 use Rattle.lg_verilog.specs.declared.expr.Expr.{Expr, fold-Expr}
 use Rattle.lg_verilog.specs.declared.expr.Expr.TheOpen.{Expr-F}
 use Rattle.lg_vrules.specs.Rules.{operator_width}
-use Rattle.lg_vmeaning.specs.declared.term.Term.{Term}
-use Rattle.lg_vmeaning.specs.declared.term.Term.TheVariants as term
-use Rattle.lg_vmeaning.specs.declared.resolve.Resolved.{Resolved}
+use Rattle.lg_vmachine.specs.declared.term.Term.{Term}
+use Rattle.lg_vmachine.specs.declared.term.Term.TheVariants as term
+use Rattle.lg_vmachine.specs.declared.resolve.Resolved.{Resolved}
 
 -- the place of a name, and 0 of one that has none
 abbrev pub place_or_0 : (List ℕ → Option ℕ) → List ℕ → ℕ

@@ -10,7 +10,7 @@ use Rattle.lg_verilog.specs.declared.module.Module.{Module}
 use Rattle.lg_vrules.specs.Things.{width_of, names_of, is_memory}
 use Rattle.lg_vrules.specs.Rules.{operator_width}
 use Rattle.lg_vrules.specs.Places.{place_from}
-use Rattle.lg_vmeaning.specs.Kept.{Kept}
+use Rattle.lg_vmachine.specs.Kept.{Kept}
 
 -- a number for each name
 abbrev pub Valuation : Type 0

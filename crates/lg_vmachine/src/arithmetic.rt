@@ -1,7 +1,7 @@
 //! Operations on numbers of up to 128 bits.
 
 ghost use Rattle.std.specs.Prelude.{◌≡◌, ◌-◌, ◌*◌, ◌/◌, ◌%◌, ◌^◌, min};
-ghost use Rattle.lg_vmeaning.specs.Terms.{wide_operation};
+ghost use Rattle.lg_vmachine.specs.Terms.{wide_operation};
 
 use lg_verilog::Operator;
 
@@ -56,7 +56,7 @@ pub fn operate(operator: Operator, width: u128, left: u128, right: u128) -> u128
         Operator::Subtract => cut(width, left.wrapping_sub(right)),
         Operator::Multiply => cut(width, left.wrapping_mul(right)),
         Operator::Divide => left.checked_div(right).unwrap_or(0),
-        Operator::Remainder => left.checked_rem(right).unwrap_or(0),
+        Operator::Remainder => left.checked_rem(right).unwrap_or(left),
         Operator::Equal => u128::from(left == right),
         Operator::Less => u128::from(left < right),
         Operator::ShiftLeft => cut(width, shift_left(left, right)),

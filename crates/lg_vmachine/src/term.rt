@@ -1,7 +1,7 @@
 //! Expressions that are ready to be computed: names are places, and widths are known.
 
 ghost use Rattle.std.specs.Prelude.{◌≡◌, [], slice_index_or};
-ghost use Rattle.lg_vmeaning.specs.Terms.{term_number};
+ghost use Rattle.lg_vmachine.specs.Terms.{term_number};
 
 use crate::arithmetic::{complement, cut, operate, shift_left, shift_right};
 use lg_verilog::Operator;
@@ -80,8 +80,9 @@ fn word_at(memories: &[Items<u128>], memory: usize, place: u128) -> u128
     let Some(words) = memories.get(memory) else {
         return 0;
     };
+    let words = words.as_slice();
     match usize::try_from(place) {
-        Ok(place) => number_at(words.as_slice(), place),
+        Ok(place) => number_at(words, place),
         Err(_) => 0,
     }
 }

@@ -6,12 +6,12 @@ use std::marker::Model;
 /// The numbers of the registers and the words of the memories of a module, each in the order of the declarations.
 #[derive(Debug, Drop)]
 pub struct Regs {
-    pub(crate) numbers: Vec<u128>,
-    pub(crate) memories: Vec<Items<u128>>,
+    pub numbers: Vec<u128>,
+    pub memories: Vec<Items<u128>>,
 }
 
 impl Model for Regs {
-    ghost use Rattle.lg_vmeaning.specs.Kept.{Kept};
+    ghost use Rattle.lg_vmachine.specs.Kept.{Kept};
 
     ghost Value = { Kept };
 

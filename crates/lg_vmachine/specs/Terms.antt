@@ -5,10 +5,10 @@ use Rattle.lg_verilog.specs.declared.expr.Operator.TheVariants as operator
 use Rattle.lg_verilog.specs.declared.expr.Expr.{Expr, fold-Expr}
 use Rattle.lg_verilog.specs.declared.expr.Expr.TheOpen.{Expr-F}
 use Rattle.lg_vrules.specs.Rules.{operator_width}
-use Rattle.lg_vmeaning.specs.declared.term.Term.{Term, fold-Term}
-use Rattle.lg_vmeaning.specs.declared.term.Term.TheVariants as term
-use Rattle.lg_vmeaning.specs.declared.term.Term.TheOpen.{Term-F}
-use Rattle.lg_vmeaning.specs.Meaning.{number_of_test}
+use Rattle.lg_vmachine.specs.declared.term.Term.{Term, fold-Term}
+use Rattle.lg_vmachine.specs.declared.term.Term.TheVariants as term
+use Rattle.lg_vmachine.specs.declared.term.Term.TheOpen.{Term-F}
+use Rattle.lg_vmachine.specs.Meaning.{number_of_test}
 
 -- an operation that is computed in 128 bits and then cut to a width
 abbrev pub wide_operation : Operator → ℕ → ℕ → ℕ → ℕ
@@ -19,7 +19,7 @@ wide_operation operator.Add width a b = (a + b) % 2 ^ 128 % 2 ^ width
 wide_operation operator.Subtract width a b = (a + 2 ^ 128 - b) % 2 ^ 128 % 2 ^ width
 wide_operation operator.Multiply width a b = (a * b) % 2 ^ 128 % 2 ^ width
 wide_operation operator.Divide width a b = a / b
-wide_operation operator.Remainder width a b = if b == 0 then 0 else a % b
+wide_operation operator.Remainder width a b = a % b
 wide_operation operator.Equal width a b = number_of_test (a == b)
 wide_operation operator.Less width a b = number_of_test (nat_lt a b)
 wide_operation operator.ShiftLeft width a b = (a * 2 ^ b) % 2 ^ 128 % 2 ^ width

@@ -3,7 +3,7 @@
 ghost use Rattle.std.specs.Prelude.{◌≡◌, map, fold, IfOk};
 ghost use Rattle.lg_vrules.specs.Known.{width_under, AreNarrow};
 ghost use Rattle.lg_vrules.specs.Places.{place_under};
-ghost use Rattle.lg_vmeaning.specs.Resolved.{resolved, resolved_join, resolved_part, resolved_not, resolved_binary, resolved_choice, place_or_0};
+ghost use Rattle.lg_vmachine.specs.Resolved.{resolved, resolved_join, resolved_part, resolved_not, resolved_binary, resolved_choice, place_or_0};
 
 use crate::term::Term;
 use lg_verilog::{Expr, Name, Operator};
@@ -139,7 +139,12 @@ impl Resolved {
         })
     }
 
-    fn with(self, alloc: Global, operator: Operator, right: Resolved) -> Result<Resolved, AllocError>
+    fn with(
+        self,
+        alloc: Global,
+        operator: Operator,
+        right: Resolved,
+    ) -> Result<Resolved, AllocError>
         ensures { IfOk result (λ r. r ≡ resolved_binary self operator right) }
     {
         Ok(Resolved {
@@ -154,7 +159,12 @@ impl Resolved {
     }
 
     // The first where this is not 0, else the second.
-    fn choose(self, alloc: Global, first: Resolved, second: Resolved) -> Result<Resolved, AllocError>
+    fn choose(
+        self,
+        alloc: Global,
+        first: Resolved,
+        second: Resolved,
+    ) -> Result<Resolved, AllocError>
         ensures { IfOk result (λ r. r ≡ resolved_choice self first second) }
     {
         Ok(Resolved {
