@@ -30,7 +30,7 @@ use Rattle.lg_export.specs.Agreement.{nothing_kept}
 use Rattle.lg_export.proofs.EquationValues.{value_of}
 use Rattle.lg_export.proofs.WireNames.{input_name_same}
 use Rattle.lg_export.proofs.OneGateShape.{IsSimple, NoneNamed, NamesDiffer, IsOneGateShape}
-use Rattle.lg_export.proofs.Driving.{names_in}
+use Rattle.lg_export.proofs.Driving.{two_lists, names_in}
 use Rattle.lg_export.proofs.Ordered.{AreBitsInOrder, x_names, x_assigns, w_assign, o_assign, part_assigns-is, part_decls-is, in_order}
 
 -- the ports of pins
@@ -47,9 +47,6 @@ assigned assigns = map (λ (a : Assign). a.name) assigns
 -- wires of one bit
 abbrev wires : List (List ℕ) → List Decl
 wires names = map (λ (name : List ℕ). decl.Wire None name) names
-
-two_lists : {A : Type 0} (a a' b b' : List A) → a ≡ a' → b ≡ b' → a ++ b ≡ a' ++ b'
-two_lists a a' b b' e f = cc
 
 assigned-x : (D : List (ℕ × List ℕ)) (k i : ℕ) (nets : List ℕ) → assigned (x_assigns D k i nets) ≡ x_names k i nets
 assigned-x D k i [] = refl

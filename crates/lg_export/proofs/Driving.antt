@@ -66,8 +66,8 @@ nets_of-bits : (name : List ℕ) (bits : List ℕ) → nets_of (map (λ net. (ne
 nets_of-bits name [] = refl
 nets_of-bits name (net ∷ bits) = ap (λ (ns : List ℕ). net ∷ ns) (nets_of-bits name bits)
 
-two : (a a' b b' : List ℕ) → a ≡ a' → b ≡ b' → a ++ b ≡ a' ++ b'
-two a a' b b' e f = cc
+pub two_lists : {A : Type 0} (a a' b b' : List A) → a ≡ a' → b ≡ b' → a ++ b ≡ a' ++ b'
+two_lists a a' b b' e f = cc
 
 nets_of-append : (xs ys : List Entry) → nets_of (xs ++ ys) ≡ nets_of xs ++ nets_of ys
 nets_of-append xs ys = map-append (λ (d : Entry). d.0) xs ys
@@ -76,13 +76,13 @@ nets_of-outputs : (part output : ℕ) (outputs : List (List ℕ)) → nets_of (o
 nets_of-outputs part output [] = refl
 nets_of-outputs part output (bits ∷ outputs) =
     nets_of-append (map (λ net. (net, output_wire part output)) bits) (output_drivers part (output + 1) outputs)
-    ∙ two (nets_of (map (λ net. (net, output_wire part output)) bits)) bits (nets_of (output_drivers part (output + 1) outputs)) (flat_map (λ (b : List ℕ). b) outputs) (nets_of-bits (output_wire part output) bits) (nets_of-outputs part (output + 1) outputs)
+    ∙ two_lists (nets_of (map (λ net. (net, output_wire part output)) bits)) bits (nets_of (output_drivers part (output + 1) outputs)) (flat_map (λ (b : List ℕ). b) outputs) (nets_of-bits (output_wire part output) bits) (nets_of-outputs part (output + 1) outputs)
 
 nets_of-parts : (part : ℕ) (parts : List PartUse) → nets_of (part_drivers part parts) ≡ driven_by_parts parts
 nets_of-parts part [] = refl
 nets_of-parts part (p ∷ parts) =
     nets_of-append (output_drivers part 0 p.outputs) (part_drivers (part + 1) parts)
-    ∙ two (nets_of (output_drivers part 0 p.outputs)) (flat_map (λ (b : List ℕ). b) p.outputs) (nets_of (part_drivers (part + 1) parts)) (driven_by_parts parts) (nets_of-outputs part 0 p.outputs) (nets_of-parts (part + 1) parts)
+    ∙ two_lists (nets_of (output_drivers part 0 p.outputs)) (flat_map (λ (b : List ℕ). b) p.outputs) (nets_of (part_drivers (part + 1) parts)) (driven_by_parts parts) (nets_of-outputs part 0 p.outputs) (nets_of-parts (part + 1) parts)
 
 -- what input pins drive
 abbrev pub pins_drive : List PinUse → List Entry
@@ -92,13 +92,13 @@ nets_of-pins : (pins : List PinUse) → nets_of (pins_drive pins) ≡ flat_map (
 nets_of-pins [] = refl
 nets_of-pins (p ∷ pins) =
     nets_of-append (map (λ net. (net, input_name p)) p.bits) (pins_drive pins)
-    ∙ two (nets_of (map (λ net. (net, input_name p)) p.bits)) p.bits (nets_of (pins_drive pins)) (flat_map (λ (q : PinUse). q.bits) pins) (nets_of-bits (input_name p) p.bits) (nets_of-pins pins)
+    ∙ two_lists (nets_of (map (λ net. (net, input_name p)) p.bits)) p.bits (nets_of (pins_drive pins)) (flat_map (λ (q : PinUse). q.bits) pins) (nets_of-bits (input_name p) p.bits) (nets_of-pins pins)
 
 -- the nets of the drivers are the driven nets, where the clock pin is none of them
 pub nets_of-all : (n : Netlist) → input_pins n ≡ filter (λ (p : PinUse). p.input) n.pins → nets_of (drivers n) ≡ driven n
 nets_of-all n pins_are =
     nets_of-append (part_drivers 0 n.parts) (pins_drive (input_pins n))
-    ∙ two (nets_of (part_drivers 0 n.parts)) (driven_by_parts n.parts) (nets_of (pins_drive (input_pins n))) (driven_by_pins n.pins) (nets_of-parts 0 n.parts)
+    ∙ two_lists (nets_of (part_drivers 0 n.parts)) (driven_by_parts n.parts) (nets_of (pins_drive (input_pins n))) (driven_by_pins n.pins) (nets_of-parts 0 n.parts)
     (nets_of-pins (input_pins n) ∙ ap (flat_map (λ (p : PinUse). p.bits)) pins_are)
 
 pub nets_of-drivers : (n : Netlist) → IsOneGateShape n → nets_of (drivers n) ≡ driven n

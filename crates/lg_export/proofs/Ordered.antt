@@ -21,7 +21,7 @@ use Rattle.lg_export.specs.Layout.{output_name, input_wire, output_wire, drivers
 use Rattle.lg_export.proofs.EquationValues.{AreKnown, IsOneBit, ReadsOnly-Whole, IsOneBit-Whole, ReadsOnly-equation, IsOneBit-equation}
 use Rattle.lg_export.proofs.WireNames.{initial, initial-input_wire, initial-output_wire, initial-input_name, initial-output_name, apart, input_wire_same, output_wire_same, output_name_same}
 use Rattle.lg_export.proofs.OneGateShape.{IsNetIn, single, IsSimple, IsPinOn, NoneNamed, NamesDiffer, IsOneGateShape}
-use Rattle.lg_export.proofs.Driving.{names_in, IsSource, from_pin, from_source}
+use Rattle.lg_export.proofs.Driving.{two_lists, names_in, IsSource, from_pin, from_source}
 
 -- equations of one bit in order: each reads only names that are known before it, and gives a number to a new one
 abbrev pub AreBitsInOrder : Module → List (List ℕ) → List Assign → Type 0
@@ -61,12 +61,6 @@ x_decls-is : (k i : ℕ) (nets : List ℕ) → map (λ (e : ℕ × List ℕ). de
 x_decls-is k i [] = refl
 x_decls-is k i (net ∷ nets) = ap (λ (rest : List Decl). decl.Wire None (input_wire k i) ∷ rest) (x_decls-is k (i + 1) nets)
 
-two_assigns : (a a' b b' : List Assign) → a ≡ a' → b ≡ b' → a ++ b ≡ a' ++ b'
-two_assigns a a' b b' e f = cc
-
-two_decls : (a a' b b' : List Decl) → a ≡ a' → b ≡ b' → a ++ b ≡ a' ++ b'
-two_decls a a' b b' e f = cc
-
 -- a gate's equations, written out
 pub part_assigns-is : (D : List (ℕ × List ℕ)) (k : ℕ) (on : List ℕ) (p : PartUse) (s : IsSimple on p)
     → part_assigns D (k, p) ≡ x_assigns D k 0 (s.first ∷ s.more) ++ w_assign k p.cell (s.first ∷ s.more) ∷ []
@@ -74,7 +68,7 @@ part_assigns-is D k on p s =
     let nets = s.first ∷ s.more in
     let reading : List (ℕ × List ℕ) → List Assign = λ es. map (λ (e : ℕ × List ℕ). record { name = input_wire k e.0; value = bits_value D e.1 }) es in
     let writing : List (ℕ × List ℕ) → List Assign = λ es. record { name = output_wire k 0; value = equation p.cell (map (λ (e : ℕ × List ℕ). expr.Whole (input_wire k e.0)) es) } ∷ [] in
-    two_assigns (reading (attached p)) (x_assigns D k 0 nets) (writing (attached p)) (w_assign k p.cell nets ∷ [])
+    two_lists (reading (attached p)) (x_assigns D k 0 nets) (writing (attached p)) (w_assign k p.cell nets ∷ [])
     (ap reading (attached-is on p s) ∙ x_assigns-is D k 0 nets)
     (ap writing (attached-is on p s) ∙ ap (λ (es : List Expr). record { name = output_wire k 0; value = equation p.cell es } ∷ []) (x_wholes-is k 0 nets))
 
@@ -85,7 +79,7 @@ part_decls-is k on p s =
     let nets = s.first ∷ s.more in
     let inputs : List (ℕ × List ℕ) → List Decl = λ es. map (λ (e : ℕ × List ℕ). decl.Wire None (input_wire k e.0)) es in
     let outputs : List (List ℕ) → List Decl = λ ports. map (λ (o : ℕ × List ℕ). decl.Wire None (output_wire k o.0)) (enumerate_from 0 ports) in
-    two_decls (inputs (attached p)) (map (λ (name : List ℕ). decl.Wire None name) (x_names k 0 nets)) (outputs p.outputs) (decl.Wire None (output_wire k 0) ∷ [])
+    two_lists (inputs (attached p)) (map (λ (name : List ℕ). decl.Wire None name) (x_names k 0 nets)) (outputs p.outputs) (decl.Wire None (output_wire k 0) ∷ [])
     (ap inputs (attached-is on p s) ∙ x_decls-is k 0 nets) (ap outputs s.gives)
 
 -- names that stand before input i of part k
