@@ -1,1 +1,4 @@
 pub mod InOrderLemmas
+pub mod NameLemmas
+pub mod OrderLemmas
+pub mod ValidLemmas

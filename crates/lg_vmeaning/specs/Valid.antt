@@ -4,6 +4,8 @@ use Rattle.std.specs.Prelude.{◌≡◌, ℕ, List, Some, None}
 use Rattle.lg_verilog.specs.declared.module.Module.{Module}
 use Rattle.lg_vmeaning.specs.declared.validity.MeanFault.{MeanFault}
 use Rattle.lg_vmeaning.specs.declared.validity.MeanFault.TheVariants.{NotValid, Cyclic, Memory}
+use Rattle.lg_vrules.specs.declared.fault.RuleFault.{RuleFault}
+use Rattle.lg_vrules.specs.declared.fault.RuleFault.TheVariants as rule
 use Rattle.lg_vrules.specs.Rules.{first_broken}
 use Rattle.lg_vrules.specs.Depends.{IsAcyclic, IsFirstCyclic}
 
@@ -23,3 +25,8 @@ abbrev pub IsInvalid : Module → MeanFault → Type 0
 IsInvalid m (NotValid rule) = first_broken m ≡ Some rule
 IsInvalid m (Cyclic wire) = IsCyclicAt m wire
 IsInvalid m Memory = Unit {0}
+
+-- a fault of the rules as one of the module
+abbrev pub rule_fault : RuleFault → MeanFault
+rule_fault (rule.Broken n) = NotValid n
+rule_fault rule.Memory = Memory

@@ -1,12 +1,10 @@
 //! The meaning of modules: which are valid, and the valuations that solve their equations.
 #![tactic(auto)]
 
-mod arithmetic;
-mod lines;
-mod machine;
-mod regs;
-mod resolve;
-mod term;
+#[cfg(test)]
+mod tests;
+mod valid_module;
+mod validity;
 
-pub use lines::PortLine;
-pub use regs::Regs;
+pub use valid_module::Valid;
+pub use validity::{MeanFault, valid};

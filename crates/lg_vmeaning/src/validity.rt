@@ -2,15 +2,13 @@
 
 ghost use Rattle.std.specs.Prelude.{◌≡◌, ◌<◌, Some, length, slice_get, IfOk, IfErr, OnOk};
 ghost use Rattle.lg_verilog.specs.declared.module.Assign.{Assign as Given};
-ghost use Rattle.lg_vmeaning.specs.Valid.{IsValid, IsInvalid};
+ghost use Rattle.lg_vmeaning.specs.Valid.{IsValid, IsInvalid, rule_fault};
 ghost use Rattle.lg_vmeaning.specs.declared.validity.MeanFault.TheVariants.{Memory as NoMemory};
 
-use crate::broken::first_broken;
-use crate::depends::first_cyclic;
-use crate::fault::Memory;
 use crate::valid_module::Valid;
 use lg_text::Text;
 use lg_verilog::{Assign, Module};
+use lg_vrules::{Dependence, Memory, RuleFault, assign_order, checked_names};
 use std::alloc::{AllocError, Global};
 
 /// Why a module is not valid.
@@ -40,6 +38,17 @@ impl From<AllocError> for MeanFault {
     }
 }
 
+impl From<RuleFault> for MeanFault {
+    ghost from_gives = { λ rule fault. fault ≡ rule_fault rule };
+
+    fn from(fault: RuleFault) -> MeanFault {
+        match fault {
+            RuleFault::Broken { rule } => MeanFault::NotValid { rule },
+            RuleFault::Memory => MeanFault::Memory,
+        }
+    }
+}
+
 /// The module as a valid one.
 ///
 /// It is refused with the number of the first rule that does not hold, from 1 on, or, where all hold, with the name of the
@@ -49,16 +58,16 @@ pub fn valid(alloc: Global, module: Module) -> Result<Valid, MeanFault>
     ensures is_valid { OnOk result (IsValid «module») }
     ensures fault { IfErr result (IsInvalid «module») }
 {
-    if let Some(rule) = first_broken(alloc, &module)? {
-        return Err(MeanFault::NotValid { rule });
+    checked_names(alloc, &module)?;
+    match assign_order(alloc, &module)? {
+        Dependence::Ordered(order) => Ok(Valid::new(module, order)),
+        Dependence::Cyclic(at) => {
+            let wire = name_at(module.assigns.as_slice(), at);
+            Err(MeanFault::Cyclic {
+                wire: Text::copy_of(alloc, wire)?,
+            })
+        }
     }
-    if let Some(at) = first_cyclic(alloc, &module)? {
-        let wire = name_at(module.assigns.as_slice(), at);
-        return Err(MeanFault::Cyclic {
-            wire: Text::copy_of(alloc, wire)?,
-        });
-    }
-    Ok(Valid::new(module))
 }
 
 // The name that the assign at a place gives a number.

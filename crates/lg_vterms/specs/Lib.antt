@@ -1,0 +1,4 @@
+pub mod Kept
+pub mod Meaning
+pub mod Terms
+pub mod Resolved
