@@ -2,11 +2,11 @@
 -- plexers and arithmetic; the numbers are this project's.
 use Rattle.std.specs.Prelude.{ℕ, ℤ, pos, neg_ℤ, ◌+◌, ◌-◌, ◌*◌, ◌/◌, ◌%◌, ◌+ℤ◌, ◌-ℤ◌, max, Bool, ◌&&◌, ◌||◌, ◌==◌, nat_le, if◌then◌else◌, codes}
 use Rattle.lg_arith.specs.Count.{least_width}
-use Rattle.lg_parts.specs.declared.entry.Size.{Size}
-use Rattle.lg_parts.specs.declared.entry.Size.TheVariants.{Any, One, Width, InWidth, OutWidth, Incoming, Group, Select, AddrWidth, DataWidth, GroupSelect, Distance, Total}
-use Rattle.lg_parts.specs.declared.entry.Place.{Place}
-use Rattle.lg_parts.specs.declared.entry.Place.TheVariants.{At, Row, Behind, GateInput, Control, FanIn, FanOut, Column, Aside, Beneath, Above}
-use Rattle.lg_parts.specs.declared.entry.Count.TheVariants.{Inputs}
+use Rattle.lg_kinds.specs.declared.rows.Size.{Size}
+use Rattle.lg_kinds.specs.declared.rows.Size.TheVariants.{Any, One, Width, InWidth, OutWidth, Incoming, Group, Select, AddrWidth, DataWidth, GroupSelect, Distance, Total}
+use Rattle.lg_kinds.specs.declared.rows.Place.{Place}
+use Rattle.lg_kinds.specs.declared.rows.Place.TheVariants.{At, Row, Behind, GateInput, Control, FanIn, FanOut, Column, Aside, Beneath, Above}
+use Rattle.lg_kinds.specs.declared.rows.Count.TheVariants.{Inputs}
 use Rattle.lg_parts.specs.Given.{Given, number, is_said, selections, is_flagged}
 
 -- how many bits number the groups of so many bits, at least 1

@@ -4,10 +4,10 @@ ghost use Rattle.std.specs.Prelude.{pos, neg_ℤ, ◌+ℤ◌, ◌≡◌, ◌+◌
 ghost use Rattle.lg_parts.specs.Given.{seen_given, is_flagged};
 ghost use Rattle.lg_parts.specs.Places.{place_at, gate_input, aside, turned, bubble};
 
-use crate::entry::{Count, Place};
 use crate::fan::{below_fan, fan_reach, fan_y};
 use crate::gate::gate_y;
 use crate::given::Given;
+use lg_kinds::rows::{Count, Place};
 use std::alloc::{AllocError, Global};
 
 // Where port number `k` stands, with the part facing east.
