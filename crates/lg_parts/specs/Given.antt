@@ -1,5 +1,5 @@
 -- The values that the attributes of a component have, and how often the rows of the table stand for it.
-use Rattle.std.specs.Prelude.{ℕ, ◌^◌, min, Bool, true, false, not, ◌&&◌, List, ◌++◌, length, Option, Some, None, find, nat_le, nat_lt, if◌then◌else◌, codes}
+use Rattle.std.specs.Prelude.{ℕ, ◌^◌, min, Bool, true, false, not, ◌&&◌, List, [], ◌++◌, length, Option, Some, None, find, unwrap_or, nat_le, nat_lt, if◌then◌else◌, codes}
 use Rattle.std.specs.List.{list_all}
 use Rattle.std.specs.Option.{option_or, option_and_then, option_map_or}
 use Rattle.std.specs.Str.{bytes_eq}
@@ -55,6 +55,10 @@ number given name = option_map_or (λ n. n) (option_and_then number_of (value gi
 -- an attribute has this value
 abbrev pub is_said : Given → List ℕ → List ℕ → Bool
 is_said given name word = option_map_or (λ text. bytes_eq text word) (value given name) false
+
+-- how it faces; nothing where its kind does not say
+abbrev pub facing_of : Given → List ℕ
+facing_of given = unwrap_or (value given (codes "facing")) []
 
 -- once where a choice holds, else not
 abbrev pub once_if : Bool → ℕ

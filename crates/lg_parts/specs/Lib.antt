@@ -1,4 +1,5 @@
 pub mod Contents
+pub mod Delays
 pub mod Given
 pub mod Judged
 pub mod Places

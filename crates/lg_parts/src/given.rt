@@ -5,7 +5,7 @@ ghost use denote.Bor.{Bor};
 ghost use Rattle.lg_kinds.specs.declared.rows.AttributeRow.{AttributeRow as AttributeRowSelf};
 ghost use Rattle.lg_kinds.specs.declared.rows.Count.TheVariants.{Stages};
 ghost use Rattle.lg_kinds.specs.Rows.{seen_attribute};
-ghost use Rattle.lg_parts.specs.Given.{seen_given, row_of, value_of, value, number_of, number, is_said, once_if, selections, count_of, numbered_value};
+ghost use Rattle.lg_parts.specs.Given.{seen_given, row_of, value_of, value, number_of, number, is_said, once_if, selections, count_of, facing_of, numbered_value};
 
 use lg_attrs::Attrs;
 use lg_kinds::rows::{AttributeRow, Count};
@@ -66,6 +66,16 @@ impl<'a> Given<'a> {
         match self.value(name) {
             Some(text) => text == word,
             None => false,
+        }
+    }
+
+    // How it faces; nothing where its kind does not say.
+    pub fn facing(&self) -> &'a str
+        ensures { result.now ≡ facing_of (seen_given self.now) }
+    {
+        match self.value("facing") {
+            Some(facing) => facing,
+            None => "",
         }
     }
 

@@ -2,6 +2,7 @@
 #![tactic(auto)]
 
 mod contents;
+mod delays;
 mod fan;
 mod gate;
 mod given;
@@ -13,11 +14,13 @@ mod size;
 mod splitter;
 mod splitter_place;
 
+pub use delays::delay;
 pub use lg_attrs::Attrs;
 pub use lg_kinds::{
     Kind, Loose, PartFault, Port, PortTable, Side, kind_name, kind_of, read_port_table,
 };
 pub use listing::ports;
+pub use place::turned;
 
 #[cfg(test)]
 mod tests;

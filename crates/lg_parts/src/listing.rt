@@ -69,7 +69,7 @@ fn port_at(alloc: Global, given: &Given, row: &PortRow, k: u32) -> Result<Port, 
     ensures { IfOk result (λ port. port ≡ port_at (seen_given given.now) (seen_port row.now) k) }
 {
     let (x, y) = offset_at(alloc, given, row, k)?;
-    let (dx, dy) = turned(given, x, y);
+    let (dx, dy) = turned(given.facing(), x, y);
     Ok(Port {
         dx,
         dy,

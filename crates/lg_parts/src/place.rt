@@ -107,16 +107,16 @@ fn aside(given: &Given) -> i32
     }
 }
 
-// A place of a part that faces east, turned as the part is.
-pub fn turned(given: &Given, x: i32, y: i32) -> (i32, i32)
+/// A place of what faces east, turned as it faces: `facing` is `west`, `north`, `south`, or anything else for east.
+pub fn turned(facing: &str, x: i32, y: i32) -> (i32, i32)
     requires x { neg_ℤ (pos 2147483647) ≤ℤ x }
-    ensures { result ≡ turned (seen_given given.now) (x, y) }
+    ensures { result ≡ turned facing.now (x, y) }
 {
-    if given.is("facing", "west") {
+    if facing == "west" {
         (-x, y)
-    } else if given.is("facing", "north") {
+    } else if facing == "north" {
         (y, -x)
-    } else if given.is("facing", "south") {
+    } else if facing == "south" {
         (y, x)
     } else {
         (x, y)
