@@ -1,7 +1,7 @@
 //! Names of kinds, and files of port tables.
 
 use crate::{Kind, PartFault, PortTable, kind_name, kind_of, read_port_table};
-use std::alloc::Global;
+use std::alloc::{AllocError, Global};
 
 #[test]
 fn kinds_have_names_in_accepted_libraries(rt: HostRuntime) {
@@ -10,6 +10,8 @@ fn kinds_have_names_in_accepted_libraries(rt: HostRuntime) {
     assert!(rt; matches!(&found, Ok(kind) if kind_name(*kind) == "J-K Flip-Flop"));
     let none = kind_of(alloc, None, "Pin");
     assert!(rt; matches!(&none, Err(PartFault::OutsideLibrary { lib }) if lib.is_empty()));
+    let other = kind_of(alloc, Some("#TTL"), "Gate");
+    assert!(rt; matches!(&other, Err(PartFault::OutsideLibrary { lib }) if lib.as_str() == "#TTL"));
     let unknown = kind_of(alloc, Some("#Gates"), "Gate");
     assert!(rt;
         matches!(&unknown, Err(PartFault::UnknownKind { name }) if name.as_str() == "Gate")
@@ -20,6 +22,8 @@ fn kinds_have_names_in_accepted_libraries(rt: HostRuntime) {
 fn the_printed_table_replaces_nothing(rt: HostRuntime) {
     let table = PortTable::printed(rt.alloc());
     assert!(rt; table.default_of(Kind::Pin, "width").is_none());
+    assert!(rt; table.place_of(Kind::Pin, "p").is_none());
+    assert!(rt; table.delay_of(Kind::Adder).is_none());
     assert!(rt; table.sheet_row("main", "A").is_none());
     assert!(rt; table.sheet_rows("main") == 0);
 }
@@ -30,40 +34,139 @@ fn is_bad(alloc: Global, text: &str, number: u32) -> bool {
     matches!(&table, Err(PartFault::BadTable { row }) if *row == number)
 }
 
-#[test]
-fn a_later_record_replaces_an_earlier_one(rt: HostRuntime) {
-    let text =
-        "row,name,item,a,b\r\ncircuit,half,A,10,-0\r\ncircuit,half,B,0,5\r\ncircuit,half,A,-10000,30\r\ndefault,Register,width,16,\r\ndefault,Register,width,4,\r\n";
-    let table = read_port_table(rt.alloc(), text.as_bytes());
-    assert!(rt; matches!(&table, Ok(table) if table.sheet_row("half", "A") == Some((-10_000, 30))));
-    assert!(rt; matches!(&table, Ok(table) if table.sheet_rows("half") == 2));
-    assert!(rt;
-        matches!(&table, Ok(table) if table.default_of(Kind::Register, "width") == Some("4"))
-    );
-}
+// Texts of port tables, and the number of the first record out of form.
+const BAD_TABLES: [(&str, u32); 9] = [
+    ("", 0),
+    ("\n\n", 0),
+    ("row,name,item,b,a\n", 0),
+    ("row,name,item,a\n", 0),
+    ("row,name,item,a,b,c\n", 0),
+    ("delay,Adder,,1,\n", 0),
+    ("row,name,item,a,b\ndelay,Adder,,1,\ndelay,Adder,,256,\n", 2),
+    ("row,name,item,a,b\n\ndelay,Adder,,0,\ndelay,Adder,,0,\n", 1),
+    ("row,name,item,a,b\nrow,name,item,a,b\n", 1),
+];
 
 #[test]
 fn the_first_record_out_of_form_is_named(rt: HostRuntime) {
-    let alloc = rt.alloc();
-    assert!(rt; is_bad(alloc, "", 0));
-    assert!(rt; is_bad(alloc, "row,name,item,b,a\n", 0));
-    assert!(rt; is_bad(alloc, "row,name,item,a,b\ndelay,Adder,,0,\n", 1));
-    assert!(rt; is_bad(alloc, "row,name,item,a,b\ndelay,Adder,,256,\n", 1));
-    assert!(rt;
-        is_bad(
-            alloc,
-            "row,name,item,a,b\ndelay,Adder,,1,\ndelay,Adder,,256,\n",
-            2
-        )
-    );
+    for (text, number) in BAD_TABLES {
+        assert!(rt; is_bad(rt.alloc(), text, number), "{text}");
+    }
+}
+
+// Records, and whether they have a form.
+const RECORDS: [(&str, bool); 66] = [
+    ("port,AND Gate,in63,0,0", true),
+    ("port,AND Gate,in64,0,0", false),
+    ("port,AND Gate,in,0,0", false),
+    ("port,AND Gate,in01,0,0", false),
+    ("port,And Gate,in0,0,0", false),
+    ("port,NOT Gate,in,10000,-10000", true),
+    ("port,NOT Gate,in,-10000,10000", true),
+    ("port,NOT Gate,in,10001,0", false),
+    ("port,NOT Gate,in,0,-10001", false),
+    ("port,NOT Gate,in,-0,0", true),
+    ("port,NOT Gate,in,+1,0", false),
+    ("port,NOT Gate,in,01,0", false),
+    ("port,NOT Gate,in,-01,0", false),
+    ("port,NOT Gate,in,,0", false),
+    ("port,NOT Gate,in,-,0", false),
+    ("port,NOT Gate,in,0", false),
+    ("port,NOT Gate,in,0,0,", false),
+    ("port,NOT Gate,in0,0,0", false),
+    ("port,Splitter,c,0,0", false),
+    ("port,Splitter,end0,0,0", false),
+    ("port,Demultiplexer,out31,0,0", true),
+    ("port,Demultiplexer,out32,0,0", false),
+    ("port,Bit Extender,ext,0,0", true),
+    ("port,Shift Register,d63,0,0", true),
+    ("port,Shift Register,q64,0,0", false),
+    ("port,Shift Register,q,0,0", true),
+    ("port,Pin,p,0,0", true),
+    ("port,Probe,p,0,0", false),
+    ("delay,Adder,,1,", true),
+    ("delay,Adder,,255,", true),
+    ("delay,Adder,,0,", false),
+    ("delay,Adder,,256,", false),
+    ("delay,Adder,,01,", false),
+    ("delay,Adder,,+1,", false),
+    ("delay,Adder,,,", false),
+    ("delay,Adder,in,1,", false),
+    ("delay,Adder,,1,2", false),
+    ("delay,Pin,,9,", true),
+    ("delay,Probe,,9,", false),
+    ("delay,main,,9,", false),
+    ("default,AND Gate,negate63,true,", true),
+    ("default,AND Gate,negate64,true,", false),
+    ("default,AND Gate,negate,true,", false),
+    ("default,AND Gate,inputs,65,", true),
+    ("default,AND Gate,xor,1,", false),
+    ("default,XOR Gate,xor,odd,", true),
+    ("default,AND Gate,inputs,3,4", false),
+    ("default,Splitter,bit63,none,", true),
+    ("default,Splitter,bit64,none,", false),
+    ("default,Pin,label,,", true),
+    ("default,Pin,facing,west,", true),
+    ("default,Register,facing,west,", false),
+    ("default,LED,facing,west,", false),
+    ("default,Counter,max,7,", true),
+    ("default,ROM,contents,,", true),
+    ("circuit,half,A,0,0", true),
+    ("circuit,half,A,-10000,10000", true),
+    ("circuit,half,A,10001,0", false),
+    ("circuit,half,A,0,x", false),
+    ("circuit,AND Gate,in0,1,2", true),
+    ("Circuit,half,A,0,0", false),
+    ("ports,NOT Gate,in,0,0", false),
+    (",,,,", false),
+    (" ", false),
+    ("\"circuit\",\"a,b\",\"A\",1,2", true),
+    ("row,name,item,a,b", false),
+];
+
+// Whether a record is read behind the header.
+fn is_record(alloc: Global, record: &str) -> Result<bool, AllocError> {
+    let text = format!(in alloc; "row,name,item,a,b\n{record}\n")?;
+    Ok(read_port_table(alloc, text.as_bytes()).is_ok())
 }
 
 #[test]
-fn ports_and_attributes_are_those_of_the_kind(rt: HostRuntime) {
-    let alloc = rt.alloc();
-    let gate = "row,name,item,a,b\nport,AND Gate,in63,0,0\nport,AND Gate,in64,0,0\n";
-    assert!(rt; is_bad(alloc, gate, 2));
-    assert!(rt; is_bad(alloc, "row,name,item,a,b\nport,Splitter,c,0,0\n", 1));
-    assert!(rt; is_bad(alloc, "row,name,item,a,b\ndefault,Probe,facing,west,\n", 1));
-    assert!(rt; is_bad(alloc, "row,name,item,a,b\ncircuit,half,A,+1,0\n", 1));
+fn records_have_one_of_four_forms(rt: HostRuntime) {
+    for (record, has_form) in RECORDS {
+        let read = is_record(rt.alloc(), record);
+        assert!(rt; matches!(&read, Ok(read) if *read == has_form), "{record}");
+    }
+}
+
+const REPLACING: &str = "\u{feff}row,name,item,a,b\r
+circuit,half,A,10,-0\r
+circuit,half,B,0,5\r
+circuit,other,A,1,1\r
+circuit,half,A,-10000,30\r
+default,Register,width,16,\r
+default,Counter,width,2,\r
+default,Register,width,4,\r
+delay,Adder,,255,\r
+delay,Adder,,1,\r
+port,NOT Gate,in,-90,0\r
+port,NOT Gate,in,-50,5";
+
+#[test]
+fn a_later_record_replaces_an_earlier_one(rt: HostRuntime) {
+    let Ok(table) = read_port_table(rt.alloc(), REPLACING.as_bytes()) else {
+        assert!(rt; false);
+        return;
+    };
+    assert!(rt; table.sheet_row("half", "A") == Some((-10_000, 30)));
+    assert!(rt; table.sheet_row("half", "C").is_none());
+    assert!(rt; table.sheet_rows("half") == 2);
+    assert!(rt; table.sheet_rows("other") == 1);
+    assert!(rt; table.sheet_rows("main") == 0);
+    assert!(rt; table.default_of(Kind::Register, "width") == Some("4"));
+    assert!(rt; table.default_of(Kind::Counter, "width") == Some("2"));
+    assert!(rt; table.default_of(Kind::Counter, "facing").is_none());
+    assert!(rt; matches!(table.delay_of(Kind::Adder), Some(instants) if instants.get() == 1));
+    assert!(rt; table.delay_of(Kind::Subtractor).is_none());
+    assert!(rt; table.place_of(Kind::NotGate, "in") == Some((-50, 5)));
+    assert!(rt; table.place_of(Kind::NotGate, "out").is_none());
 }
