@@ -1,5 +1,5 @@
 -- The values that the attributes of a component have, and how often the rows of the table stand for it.
-use Rattle.std.specs.Prelude.{ℕ, ◌^◌, min, Bool, true, false, not, ◌&&◌, List, [], ◌++◌, length, Option, Some, None, find, unwrap_or, nat_le, nat_lt, if◌then◌else◌, codes}
+use Rattle.std.specs.Prelude.{ℕ, ◌^◌, min, Bool, false, not, ◌&&◌, List, [], length, Option, Some, None, find, unwrap_or, nat_le, nat_lt, if◌then◌else◌, codes}
 use Rattle.std.specs.List.{list_all}
 use Rattle.std.specs.Option.{option_or, option_and_then, option_map_or}
 use Rattle.std.specs.Str.{bytes_eq}
