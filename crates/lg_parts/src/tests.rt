@@ -188,7 +188,7 @@ fn values_are_judged_at_both_ends_of_their_ranges(rt: HostRuntime) {
 }
 
 // Values with blanks or line ends, of a ROM unless another kind is named, and whether they are read.
-const TEXTS: [(&str, &str, &str, bool); 10] = [
+const TEXTS: &[(&str, &str, &str, bool)] = &[
     ("ROM", "contents", "", true),
     ("ROM", "contents", "addr/data: 08 8\r\n256*ff", true),
     ("ROM", "contents", "addr/data: 8 8\n", true),
@@ -206,36 +206,36 @@ fn texts_are_values_too(rt: HostRuntime) {
     let alloc = rt.alloc();
     for (kind, name, value, read) in TEXTS {
         match attrs_of(alloc, &[(name, value)]) {
-            Ok(attrs) if read => assert!(rt; is_read(alloc, kind, &attrs), "{value}"),
+            Ok(attrs) if *read => assert!(rt; is_read(alloc, kind, &attrs), "{value}"),
             Ok(attrs) => assert!(rt; is_refused(alloc, kind, &attrs, (name, value)), "{value}"),
             Err(_) => assert!(rt; false),
         }
     }
 }
 
-// Components with two values out of range, and the one that is named.
-const FIRST: [(&str, &str, &str, &str); 6] = [
-    ("OR Gate", "inputs=65 facing=up", "facing", "up"),
-    ("OR Gate", "negate1=no negate0=yes", "negate0", "yes"),
-    ("Splitter", "bit1=2 bit0=1 bit63=9", "bit1", "2"),
-    ("Multiplexer", "select=6 width=0", "width", "0"),
-    ("BitSelector", "group=9 width=65", "width", "65"),
-    ("Pin", "width=0 width=1", "width", "0"),
-];
+// Components with two values out of range, and the name and the value that are told.
+const FIRST: &str = "OR Gate|inputs=65 facing=up|facing|up
+OR Gate|negate1=no negate0=yes|negate0|yes
+Splitter|bit1=2 bit0=1 bit63=9|bit1|2
+Multiplexer|select=6 width=0|width|0
+BitSelector|group=9 width=65|width|65
+Pin|width=0 width=1|width|0";
 
 #[test]
 fn the_first_attribute_out_of_range_is_named(rt: HostRuntime) {
     let alloc = rt.alloc();
-    for (kind, text, name, value) in FIRST {
+    for line in FIRST.lines() {
+        let (kind, rest) = cut(line);
+        let (text, bad) = cut(rest);
         match said(alloc, text) {
-            Ok(attrs) => assert!(rt; is_refused(alloc, kind, &attrs, (name, value)), "{text}"),
+            Ok(attrs) => assert!(rt; is_refused(alloc, kind, &attrs, cut(bad)), "{line}"),
             Err(_) => assert!(rt; false),
         }
     }
 }
 
 // Records of a port table, a component, and how it is described then.
-const REPLACED: [(&str, &str, &str, &str); 9] = [
+const REPLACED: &[(&str, &str, &str, &str)] = &[
     (
         "port,AND Gate,in1,-10000,10000\nport,AND Gate,in1,5,-7",
         "AND Gate",
