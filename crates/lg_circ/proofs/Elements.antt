@@ -6,7 +6,7 @@ use Rattle.std.proofs.lemmas.Bool.{and_parts}
 use Rattle.std.proofs.lemmas.List.{append-nil}
 use Rattle.std.proofs.lemmas.Option.{same_Some}
 use Rattle.lg_circ.specs.declared.element.Element.{Element}
-use Rattle.lg_circ.specs.Pairs.{names_differ}
+use Rattle.lg_attrs.specs.Pairs.{names_differ}
 use Rattle.lg_circ.specs.Tree.{name_of, attributes_of, text_of, children_of}
 use Rattle.lg_circ.specs.Grammar.{begins_name, continues_name, IsName, is_white, IsWhite, Piece, own, reference, comment, element, characters_of, elements_of, spelling_of, IsInElement, SpellsAttributes, SpellsEmpty, SpellsOpen, SpellsElement, Spells}
 use Rattle.lg_circ.specs.Meaning.{◌>>=◌}

@@ -15,7 +15,7 @@ use Rattle.lg_circ.specs.declared.project.Sheet.{Sheet}
 use Rattle.lg_circ.specs.declared.project.Project.{Project}
 use Rattle.lg_circ.specs.declared.project.TheConstants.{USUAL_LIMIT}
 use Rattle.lg_circ.specs.Bounds.{is_on_sheet, is_limit, given}
-use Rattle.lg_circ.specs.Pairs.{value_under}
+use Rattle.lg_attrs.specs.Pairs.{value_under}
 use Rattle.lg_circ.specs.Grammar.{are_digits, number_in}
 use Rattle.lg_circ.specs.Tree.{attribute, children_named, child_named}
 use Rattle.lg_circ.specs.Meaning.{◌>>=◌, each, number_of, decimal_of, point_of, lib_of, settings_of, wire_of, comp_of, sheet_of, options_of, Limit, limit_of, is_error, project_of}

@@ -12,7 +12,7 @@ use Rattle.lg_circ.specs.declared.project.Comp.{Comp}
 use Rattle.lg_circ.specs.declared.project.Wire.{Wire}
 use Rattle.lg_circ.specs.declared.project.Sheet.{Sheet}
 use Rattle.lg_circ.specs.declared.project.Project.{Project}
-use Rattle.lg_circ.specs.Pairs.{value_under}
+use Rattle.lg_attrs.specs.Pairs.{value_under}
 use Rattle.lg_circ.specs.Tree.{name_of, children_of, is_named, children_named, child_named, attribute}
 use Rattle.lg_circ.specs.Grammar.{Piece, own, reference, comment, element, elements_of, spelling_of, IsInElement, SpellsElement, Spells}
 use Rattle.lg_circ.specs.Meaning.{◌>>=◌, each, lib_of, comp_of, wire_of, sheet_of, options_of, is_error, limit_of}

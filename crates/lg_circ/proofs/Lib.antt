@@ -20,6 +20,4 @@ pub mod Few
 pub mod Whole
 pub mod Loops
 pub mod Digits
-pub mod Distinct
-pub mod Members
 pub mod Growing

@@ -7,7 +7,7 @@ use Rattle.std.proofs.lemmas.Bool.Decides.{nat_tests}
 use Rattle.std.proofs.lemmas.List.{length-append}
 use Rattle.std.proofs.lemmas.List.Folds.{list_all-append}
 use Rattle.std.proofs.lemmas.Option.{same_Some}
-use Rattle.lg_circ.specs.Pairs.{names_differ}
+use Rattle.lg_attrs.specs.Pairs.{names_differ}
 use Rattle.lg_circ.specs.Grammar.{is_white, IsWhite, IsGap, continues_name, IsName, character_of, Piece, own, reference, comment, element, spelling_of, IsMadeOf, IsInValue, SpellsAttribute, SpellsAttributes}
 use Rattle.lg_circ.specs.Meaning.{◌>>=◌}
 use Rattle.lg_circ.specs.Reading.{ends_tag, is_quoted, is_reference, begins, front_of, rest_of, after_mark, either, after_gap, name_at, said_of, value_at, quoted_at, attribute_at, attributes_at, tag_at}

@@ -5,7 +5,7 @@ use Rattle.std.specs.Char.{is_ascii_alphabetic, is_ascii_digit, is_ascii_hexdigi
 use Rattle.std.specs.List.{list_all, flat_map, starts_with, AllByRecursion}
 use Rattle.std.specs.Str.{IsUtf8, bytes_eq}
 use Rattle.lg_circ.specs.declared.element.Element.{Element}
-use Rattle.lg_circ.specs.Pairs.{names_differ}
+use Rattle.lg_attrs.specs.Pairs.{names_differ}
 use Rattle.lg_circ.specs.Tree.{name_of, attributes_of, text_of, children_of}
 
 -- space, tab, carriage return, line feed

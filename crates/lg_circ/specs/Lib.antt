@@ -1,6 +1,5 @@
 pub mod Bounds
 pub mod Straight
-pub mod Pairs
 pub mod Tree
 pub mod Grammar
 pub mod Meaning

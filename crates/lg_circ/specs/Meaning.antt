@@ -12,7 +12,7 @@ use Rattle.lg_circ.specs.declared.project.Sheet.{Sheet}
 use Rattle.lg_circ.specs.declared.project.Project.{Project}
 use Rattle.lg_circ.specs.declared.project.TheConstants.{USUAL_LIMIT}
 use Rattle.lg_circ.specs.Bounds.{is_on_sheet, is_limit, given}
-use Rattle.lg_circ.specs.Pairs.{value_under}
+use Rattle.lg_attrs.specs.Pairs.{value_under}
 use Rattle.lg_circ.specs.Tree.{text_of, children_named, child_named, attribute}
 
 -- goes on with what is there

@@ -8,7 +8,7 @@ use Rattle.lg_circ.specs.declared.fault.CircFault.{CircFault}
 use Rattle.lg_circ.specs.declared.fault.CircFault.TheVariants.{TooLong, TooDeep, NotProject, Memory}
 use Rattle.lg_circ.specs.declared.class.Class.{Class}
 use Rattle.lg_circ.specs.declared.class.Class.TheVariants.{White, NameStart, Name, Reference, Own, Characters, Double, Single, TagEnd}
-use Rattle.lg_circ.specs.Pairs.{names_differ}
+use Rattle.lg_attrs.specs.Pairs.{names_differ}
 use Rattle.lg_circ.specs.Grammar.{is_white, begins_name, continues_name, character_of}
 use Rattle.lg_circ.specs.Tree.{name_of, attributes_of, text_of, children_of, greatest_level}
 use Rattle.lg_circ.specs.Meaning.{◌>>=◌}

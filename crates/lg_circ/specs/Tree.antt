@@ -3,7 +3,7 @@ use Rattle.std.specs.Prelude.{ℕ, zero, suc, List, Bool, false, Option, find, f
 use Rattle.std.specs.List.{list_all}
 use Rattle.std.specs.Str.{bytes_eq}
 use Rattle.lg_circ.specs.declared.element.Element.{Element, out-Element}
-use Rattle.lg_circ.specs.Pairs.{value_under}
+use Rattle.lg_attrs.specs.Pairs.{value_under}
 
 abbrev pub name_of : Element → List ℕ
 name_of e = (out-Element e).name

@@ -9,7 +9,6 @@ mod judge;
 mod law;
 mod mark;
 mod meaning;
-mod pairs;
 mod point;
 mod project;
 mod read;
@@ -19,10 +18,8 @@ mod tree;
 pub use element::Element;
 pub use fault::CircFault;
 pub use law::{one_tree, texts_say_or_not};
-pub use pairs::value_under;
-pub use project::{
-    Attrs, Comp, FARTHEST, GREATEST_LIMIT, Point, Project, Sheet, USUAL_LIMIT, Wire,
-};
+pub use lg_attrs::{Attrs, value_under};
+pub use project::{Comp, FARTHEST, GREATEST_LIMIT, Point, Project, Sheet, USUAL_LIMIT, Wire};
 pub use read::{GREATEST_LENGTH, read_project};
 
 #[cfg(test)]

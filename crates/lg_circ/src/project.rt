@@ -3,7 +3,7 @@
 ghost use Rattle.std.specs.Prelude.{◌≡◌, ◌&&◌, IsTrue};
 ghost use Rattle.lg_circ.specs.Bounds.{is_on_sheet, is_limit};
 
-use crate::pairs::{has_only, value_under};
+use lg_attrs::Attrs;
 use lg_text::Text;
 use sqlite_items::Items;
 
@@ -48,31 +48,6 @@ impl Wire {
         ensures { result ≡ is_straight self }
     {
         self.from.x == self.to.x || self.from.y == self.to.y
-    }
-}
-
-/// The attributes of a component, by name. Of one name twice the first counts.
-#[derive(Debug, Drop)]
-pub struct Attrs {
-    pub list: Items<(Text, Text)>,
-}
-
-impl Attrs {
-    ghost use Rattle.std.specs.Option.{option_copied};
-    ghost use Rattle.lg_circ.specs.Pairs.{value_under, has_only, texts};
-
-    /// The first value under a name.
-    pub fn value(&self, name: &str) -> Option<&Text>
-        ensures { option_copied result ≡ value_under name.now self.now.list }
-    {
-        value_under(name, self.list.as_slice())
-    }
-
-    /// Whether it has these names alone, each at most once. In time linear in the attributes where the names are few.
-    pub fn has_only(&self, names: &[&str]) -> bool
-        ensures { result ≡ has_only (texts names.now) self.now.list }
-    {
-        has_only(names, self.list.as_slice())
     }
 }
 

@@ -8,7 +8,7 @@ use crate::character::said;
 use crate::class::{Class, begins_with, skip, split_after};
 use crate::fault::CircFault;
 use crate::mark::{after, after_comment, skip_gap, starts, strip};
-use crate::pairs::names_differ;
+use lg_attrs::names_differ;
 use lg_text::Text;
 use sqlite_items::Items;
 use std::alloc::Global;

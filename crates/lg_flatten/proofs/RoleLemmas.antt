@@ -8,7 +8,7 @@ use Rattle.std.proofs.lemmas.Option.{same_Some, none-some}
 use Rattle.lg_circ.specs.declared.project.Point.{Point}
 use Rattle.lg_circ.specs.declared.project.Comp.{Comp}
 use Rattle.lg_circ.specs.Meaning.{◌>>=◌}
-use Rattle.lg_circ.specs.Pairs.{value_under, has_only}
+use Rattle.lg_attrs.specs.Pairs.{value_under, has_only}
 use Rattle.lg_netlist.specs.declared.netlist.Cell.{Cell}
 use Rattle.lg_netlist.specs.declared.netlist.Cell.TheVariants as cell
 use Rattle.lg_flatten.specs.declared.role.Role.{Role}

@@ -5,7 +5,7 @@ use Rattle.std.specs.Fmt.{signed_decimal}
 use Rattle.lg_circ.specs.declared.project.Comp.{Comp}
 use Rattle.lg_circ.specs.declared.project.Wire.{Wire}
 use Rattle.lg_circ.specs.declared.project.Sheet.{Sheet}
-use Rattle.lg_circ.specs.Pairs.{value_under}
+use Rattle.lg_attrs.specs.Pairs.{value_under}
 use Rattle.lg_nets.specs.Joined.{place_at, Joined, AreAttached}
 use Rattle.lg_netlist.specs.declared.netlist.PartUse.{PartUse}
 use Rattle.lg_netlist.specs.declared.netlist.PinUse.{PinUse}

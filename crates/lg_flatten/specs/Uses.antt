@@ -4,7 +4,7 @@ use Rattle.std.specs.Prelude.{◌≡◌, ℕ, ◌==◌, ◌≤◌, Bool, true, f
 use Rattle.std.specs.Str.{bytes_eq}
 use Rattle.lg_circ.specs.declared.project.Point.{Point}
 use Rattle.lg_circ.specs.declared.project.Comp.{Comp}
-use Rattle.lg_circ.specs.Pairs.{value_under, has_only}
+use Rattle.lg_attrs.specs.Pairs.{value_under, has_only}
 use Rattle.lg_circ.specs.Meaning.{◌>>=◌, each}
 use Rattle.lg_flatten.specs.declared.role.Role.{Role}
 use Rattle.lg_flatten.specs.declared.role.Role.TheVariants.{Pin, Gate}

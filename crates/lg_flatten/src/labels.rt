@@ -2,7 +2,7 @@
 
 ghost use Rattle.std.specs.Prelude.{◌≡◌, [], IfOk, codes, unwrap_or};
 ghost use Rattle.std.specs.List.{zip};
-ghost use Rattle.lg_circ.specs.Pairs.{value_under};
+ghost use Rattle.lg_attrs.specs.Pairs.{value_under};
 ghost use Rattle.lg_flatten.specs.Flat.{use_name, pin_labels};
 
 use crate::role::Role;

@@ -6,12 +6,12 @@ use denote.Bor.{Bor}
 use Rattle.std.specs.List.{All}
 use Rattle.std.proofs.lemmas.List.{take_all, get_or-map, length-map, take-append-drop}
 use Rattle.std.proofs.lemmas.List.Elements.{All-more}
-use Rattle.lg_parts.specs.declared.fault.PartFault.{PartFault}
-use Rattle.lg_parts.specs.Given.{Given, count_of, value_of, name_at}
+use Rattle.lg_kinds.specs.declared.fault.PartFault.{PartFault}
+use Rattle.lg_parts.specs.Given.{Given, count_of, value_of}
 use Rattle.lg_parts.specs.Judged.{EntryFits, RowFits, RefusesAt, RefusesIn, Refuses}
 use Rattle.lg_parts.specs.Ranges.{InRange}
-use Rattle.lg_parts.specs.Rows.{Attribute}
-use Rattle.lg_parts.specs.Table.{entry}
+use Rattle.lg_kinds.specs.Rows.{Attribute, name_at}
+use Rattle.lg_kinds.specs.Table.{entry}
 
 -- one row more
 pub rows_fit-more : {X Y : Type 0} (P : Y → Type 0) (f : X → Y) (xs : List X) (i : ℕ) (d : X) → i < length xs → All P (take i (map f xs)) → P (f (get_or xs i d)) → All P (take (i + 1) (map f xs))

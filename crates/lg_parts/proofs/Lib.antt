@@ -1,12 +1,6 @@
-pub mod LastLemmas
 pub mod NumberLemmas
 pub mod JudgeLemmas
 pub mod LiteralLemmas
 pub mod RowLemmas
 pub mod GrowingLemmas
 pub mod ContentsLemmas
-pub mod KindLemmas
-mod SheetLemmas
-mod CellLemmas
-mod FormLemmas
-mod TableLemmas

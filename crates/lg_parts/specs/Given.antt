@@ -1,19 +1,18 @@
 -- The values that the attributes of a component have, and how often the rows of the table stand for it.
-use Rattle.std.specs.Prelude.{ℕ, ◌^◌, min, Bool, true, false, not, ◌&&◌, List, ◌++◌, length, Option, Some, None, find, nat_le, nat_lt, if◌then◌else◌, codes}
-use Rattle.std.specs.Fmt.{decimal}
+use Rattle.std.specs.Prelude.{ℕ, ◌^◌, min, Bool, false, not, ◌&&◌, List, [], length, Option, Some, None, find, unwrap_or, nat_le, nat_lt, if◌then◌else◌, codes}
 use Rattle.std.specs.List.{list_all}
 use Rattle.std.specs.Option.{option_or, option_and_then, option_map_or}
 use Rattle.std.specs.Str.{bytes_eq}
 use Rattle.lg_memory.specs.Image.{digit_value, number_in}
-use Rattle.lg_parts.specs.declared.kind.Kind.{Kind}
-use Rattle.lg_parts.specs.declared.port_table.Record.{Record}
+use Rattle.lg_kinds.specs.declared.kind.Kind.{Kind}
+use Rattle.lg_kinds.specs.declared.record.Record.{Record}
 use Rattle.lg_parts.specs.declared.given.Given.{Given as GivenSelf}
-use Rattle.lg_parts.specs.declared.entry.Count.{Count}
-use Rattle.lg_parts.specs.declared.entry.Count.TheVariants.{Once, Inputs, Incoming, Selections, Enabled, Extended, Parallel, Serial, Stages}
-use Rattle.lg_parts.specs.Attrs.{value_under}
-use Rattle.lg_parts.specs.PortTable.{default_of}
-use Rattle.lg_parts.specs.Rows.{Attribute}
-use Rattle.lg_parts.specs.Table.{entry}
+use Rattle.lg_kinds.specs.declared.rows.Count.{Count}
+use Rattle.lg_kinds.specs.declared.rows.Count.TheVariants.{Once, Inputs, Incoming, Selections, Enabled, Extended, Parallel, Serial, Stages}
+use Rattle.lg_attrs.specs.Pairs.{value_under}
+use Rattle.lg_kinds.specs.PortTable.{default_of}
+use Rattle.lg_kinds.specs.Rows.{Attribute, name_at}
+use Rattle.lg_kinds.specs.Table.{entry}
 
 -- a component: its kind, its attributes, and the records that replace what they leave out
 pub record Given : Type 0 where
@@ -57,6 +56,10 @@ number given name = option_map_or (λ n. n) (option_and_then number_of (value gi
 abbrev pub is_said : Given → List ℕ → List ℕ → Bool
 is_said given name word = option_map_or (λ text. bytes_eq text word) (value given name) false
 
+-- how it faces; nothing where its kind does not say
+abbrev pub facing_of : Given → List ℕ
+facing_of given = unwrap_or (value given (codes "facing")) []
+
 -- once where a choice holds, else not
 abbrev pub once_if : Bool → ℕ
 once_if holds = if holds then 1 else 0
@@ -76,18 +79,6 @@ count_of given Extended = once_if (is_said given (codes "type") (codes "input"))
 count_of given Parallel = once_if (is_said given (codes "parallel") (codes "true"))
 count_of given Serial = once_if (not (is_said given (codes "parallel") (codes "true")))
 count_of given Stages = if is_said given (codes "parallel") (codes "true") then number given (codes "length") else 0
-
--- what such a row stands for is numbered from 0, behind its name
-abbrev pub is_numbered : Count → Bool
-is_numbered Inputs = true
-is_numbered Incoming = true
-is_numbered Selections = true
-is_numbered Stages = true
-is_numbered _ = false
-
--- the name of an attribute or a port by its number
-abbrev pub name_at : List ℕ → Count → ℕ → List ℕ
-name_at name count k = if is_numbered count then name ++ decimal k else name
 
 -- the value of attribute number k of the row of this name
 abbrev pub numbered_value : Given → List ℕ → Count → ℕ → Option (List ℕ)

@@ -1,12 +1,12 @@
 -- The first attribute of a component, in the order of its kind's table, whose value is out of its range.
 use Rattle.std.specs.Prelude.{ℕ, ◌≡◌, ◌<◌, ◌⊎◌, List, ◌∷◌, ◌++◌, Some, All}
 use Rattle.std.specs.Option.{ForSome}
-use Rattle.lg_parts.specs.declared.fault.PartFault.{PartFault}
-use Rattle.lg_parts.specs.declared.fault.PartFault.TheVariants.{BadAttr, Memory}
-use Rattle.lg_parts.specs.Given.{Given, count_of, value_of, name_at}
+use Rattle.lg_kinds.specs.declared.fault.PartFault.{PartFault}
+use Rattle.lg_kinds.specs.declared.fault.PartFault.TheVariants.{BadAttr, Memory}
+use Rattle.lg_parts.specs.Given.{Given, count_of, value_of}
 use Rattle.lg_parts.specs.Ranges.{InRange}
-use Rattle.lg_parts.specs.Rows.{Attribute}
-use Rattle.lg_parts.specs.Table.{entry}
+use Rattle.lg_kinds.specs.Rows.{Attribute, name_at}
+use Rattle.lg_kinds.specs.Table.{entry}
 
 -- attribute number k of a row is left out, or its value is in its range
 abbrev pub EntryFits : Given → Attribute → ℕ → Type 0

@@ -1,14 +1,8 @@
-pub mod Attrs
-pub mod Cells
 pub mod Contents
+pub mod Delays
 pub mod Given
 pub mod Judged
-pub mod Kinds
 pub mod Places
-pub mod PortTable
 pub mod Ports
 pub mod Ranges
-pub mod Rows
 pub mod SplitterEnds
-pub mod Table
-pub mod TableFile

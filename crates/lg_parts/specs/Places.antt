@@ -1,12 +1,13 @@
 -- How wide ports are, and where they stand. Source: the library reference of Logisim-evolution, the shapes of gates,
 -- plexers and arithmetic; the numbers are this project's.
-use Rattle.std.specs.Prelude.{ℕ, ℤ, pos, neg_ℤ, ◌+◌, ◌-◌, ◌*◌, ◌/◌, ◌%◌, ◌+ℤ◌, ◌-ℤ◌, max, Bool, ◌&&◌, ◌||◌, ◌==◌, nat_le, if◌then◌else◌, codes}
+use Rattle.std.specs.Prelude.{ℕ, ℤ, pos, neg_ℤ, ◌+◌, ◌-◌, ◌*◌, ◌/◌, ◌%◌, ◌+ℤ◌, ◌-ℤ◌, max, Bool, ◌&&◌, ◌||◌, ◌==◌, nat_le, List, if◌then◌else◌, codes}
+use Rattle.std.specs.Str.{bytes_eq}
 use Rattle.lg_arith.specs.Count.{least_width}
-use Rattle.lg_parts.specs.declared.entry.Size.{Size}
-use Rattle.lg_parts.specs.declared.entry.Size.TheVariants.{Any, One, Width, InWidth, OutWidth, Incoming, Group, Select, AddrWidth, DataWidth, GroupSelect, Distance, Total}
-use Rattle.lg_parts.specs.declared.entry.Place.{Place}
-use Rattle.lg_parts.specs.declared.entry.Place.TheVariants.{At, Row, Behind, GateInput, Control, FanIn, FanOut, Column, Aside, Beneath, Above}
-use Rattle.lg_parts.specs.declared.entry.Count.TheVariants.{Inputs}
+use Rattle.lg_kinds.specs.declared.rows.Size.{Size}
+use Rattle.lg_kinds.specs.declared.rows.Size.TheVariants.{Any, One, Width, InWidth, OutWidth, Incoming, Group, Select, AddrWidth, DataWidth, GroupSelect, Distance, Total}
+use Rattle.lg_kinds.specs.declared.rows.Place.{Place}
+use Rattle.lg_kinds.specs.declared.rows.Place.TheVariants.{At, Row, Behind, GateInput, Control, FanIn, FanOut, Column, Aside, Beneath, Above}
+use Rattle.lg_kinds.specs.declared.rows.Count.TheVariants.{Inputs}
 use Rattle.lg_parts.specs.Given.{Given, number, is_said, selections, is_flagged}
 
 -- how many bits number the groups of so many bits, at least 1
@@ -108,10 +109,10 @@ place_at given (Aside x) k = (x, aside given)
 place_at given (Beneath x) k = (x, pos (below_fan (selections given)))
 place_at given (Above x) k = (x, neg_ℤ (pos (below_fan (selections given))))
 
--- a place of a part that faces east, turned as the part is
-abbrev pub turned : Given → ℤ × ℤ → ℤ × ℤ
-turned given place =
-    if is_said given (codes "facing") (codes "west") then (neg_ℤ place.0, place.1)
-    else (if is_said given (codes "facing") (codes "north") then (place.1, neg_ℤ place.0)
-    else (if is_said given (codes "facing") (codes "south") then (place.1, place.0)
+-- a place of what faces east, turned as it faces
+abbrev pub turned : List ℕ → ℤ × ℤ → ℤ × ℤ
+turned facing place =
+    if bytes_eq facing (codes "west") then (neg_ℤ place.0, place.1)
+    else (if bytes_eq facing (codes "north") then (place.1, neg_ℤ place.0)
+    else (if bytes_eq facing (codes "south") then (place.1, place.0)
     else place))

@@ -1,13 +1,13 @@
 -- The ports of a component.
 use Rattle.std.specs.Prelude.{ℕ, ℤ, List, ◌++◌, map, unwrap_or}
 use Rattle.std.specs.List.{flat_map, range_with_len}
-use Rattle.lg_parts.specs.declared.port.Port.{Port}
-use Rattle.lg_parts.specs.Given.{Given, count_of, name_at}
+use Rattle.lg_kinds.specs.declared.port.Port.{Port}
+use Rattle.lg_parts.specs.Given.{Given, count_of, facing_of}
 use Rattle.lg_parts.specs.Places.{size_of, place_at, turned}
-use Rattle.lg_parts.specs.PortTable.{place_of}
-use Rattle.lg_parts.specs.Rows.{PortForm}
+use Rattle.lg_kinds.specs.PortTable.{place_of}
+use Rattle.lg_kinds.specs.Rows.{PortForm, name_at}
 use Rattle.lg_parts.specs.SplitterEnds.{end_ports}
-use Rattle.lg_parts.specs.Table.{entry}
+use Rattle.lg_kinds.specs.Table.{entry}
 
 -- where port number k of a row stands, with the part facing east: where the last record for it says, else where the
 -- table of kinds says
@@ -18,7 +18,7 @@ offset_at given row k =
 -- port number k of a row
 abbrev pub port_at : Given → PortForm → ℕ → Port
 port_at given row k =
-    let place = turned given (offset_at given row k) in
+    let place = turned (facing_of given) (offset_at given row k) in
     record { dx = place.0; dy = place.1; width = size_of given row.size; side = row.side; loose = row.loose }
 
 -- the ports of a row

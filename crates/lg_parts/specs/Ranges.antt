@@ -5,7 +5,7 @@ use Rattle.std.specs.Str.{bytes_eq}
 use Rattle.lg_memory.specs.Image.{Spells}
 use Rattle.lg_parts.specs.Contents.{IsContents}
 use Rattle.lg_parts.specs.Given.{Given, number_of, number}
-use Rattle.lg_parts.specs.Rows.{Range, Any, OneOf, Number, Group, End, Literal, Contents}
+use Rattle.lg_kinds.specs.Rows.{Range, Any, OneOf, Number, Group, End, Literal, Contents}
 
 -- a number from one to another
 abbrev pub IsWithin : ℕ → ℕ → List ℕ → Type 0

@@ -2,10 +2,10 @@
 use Rattle.std.specs.Prelude.{ℕ, ℤ, pos, ◌+◌, ◌-◌, ◌*◌, ◌/◌, ◌%◌, ◌-ℤ◌, ◌+ℤ◌, neg_ℤ, max, Bool, false, ◌==◌, ◌||◌, List, [], ◌∷◌, count_by, Option, Some, nat_lt, if◌then◌else◌, codes}
 use Rattle.std.specs.List.{flat_map, range_with_len}
 use Rattle.std.specs.Option.{option_map_or}
-use Rattle.lg_parts.specs.declared.entry.Count.TheVariants.{Incoming}
-use Rattle.lg_parts.specs.declared.port.Port.{Port}
-use Rattle.lg_parts.specs.declared.port.Side.TheVariants.{Both}
-use Rattle.lg_parts.specs.declared.port.Loose.TheVariants.{Unknown}
+use Rattle.lg_kinds.specs.declared.rows.Count.TheVariants.{Incoming}
+use Rattle.lg_kinds.specs.declared.port.Port.{Port}
+use Rattle.lg_kinds.specs.declared.port.Side.TheVariants.{Both}
+use Rattle.lg_kinds.specs.declared.port.Loose.TheVariants.{Unknown}
 use Rattle.lg_parts.specs.Given.{Given, number, number_of, is_said, numbered_value}
 
 -- the end of bit k in the even split: the bits go to the ends in order, one more to each of the first ends; a splitter

@@ -2,19 +2,15 @@
 
 ghost use Rattle.std.specs.Prelude.{ℕ, List, ◌≡◌, ◌≤◌, option_map, IfOk, IfSome};
 ghost use denote.Bor.{Bor};
-ghost use Rattle.lg_parts.specs.declared.entry.AttributeRow.{AttributeRow as AttributeRowSelf};
-ghost use Rattle.lg_parts.specs.declared.entry.Count.TheVariants.{Stages};
-ghost use Rattle.lg_parts.specs.Rows.{seen_attribute};
-ghost use Rattle.lg_parts.specs.Given.{seen_given, row_of, value_of, value, number_of, number, is_said, once_if, selections, count_of, is_numbered, name_at, numbered_value};
+ghost use Rattle.lg_kinds.specs.declared.rows.AttributeRow.{AttributeRow as AttributeRowSelf};
+ghost use Rattle.lg_kinds.specs.declared.rows.Count.TheVariants.{Stages};
+ghost use Rattle.lg_kinds.specs.Rows.{seen_attribute};
+ghost use Rattle.lg_parts.specs.Given.{seen_given, row_of, value_of, value, number_of, number, is_said, once_if, selections, count_of, facing_of, numbered_value};
 
-use crate::attrs::Attrs;
-use crate::entry::{AttributeRow, Count};
-use crate::kind::Kind;
-use crate::port_table::PortTable;
-use crate::table::entry;
-use itoa::Buffer;
+use lg_attrs::Attrs;
+use lg_kinds::rows::{AttributeRow, Count};
+use lg_kinds::{Kind, PortTable, entry, name_at};
 use lg_memory::read_number;
-use lg_text::Text;
 use std::alloc::{AllocError, Global};
 
 // The greatest number that is read; no attribute has a greater one in its range.
@@ -70,6 +66,16 @@ impl<'a> Given<'a> {
         match self.value(name) {
             Some(text) => text == word,
             None => false,
+        }
+    }
+
+    // How it faces; nothing where its kind does not say.
+    pub fn facing(&self) -> &'a str
+        ensures { result.now ≡ facing_of (seen_given self.now) }
+    {
+        match self.value("facing") {
+            Some(facing) => facing,
+            None => "",
         }
     }
 
@@ -157,27 +163,5 @@ pub fn number_of(text: &str) -> Option<u32>
     match read_number(text.as_bytes(), 10, MOST) {
         Some(number) => Some(number as u32),
         None => None,
-    }
-}
-
-// The name of the attribute or the port number `k` of a row.
-pub fn name_at(alloc: Global, name: &str, count: Count, k: u32) -> Result<Text, AllocError>
-    ensures { IfOk result (λ text. text ≡ name_at name.now count k) }
-{
-    let mut text = Text::copy_of(alloc, name)?;
-    if is_numbered(count) {
-        let mut buffer = Buffer::new();
-        text.push_str(buffer.format(k))?;
-    }
-    Ok(text)
-}
-
-// Whether a row stands for several, which are numbered.
-fn is_numbered(count: Count) -> bool
-    ensures { result ≡ is_numbered count }
-{
-    match count {
-        Count::Inputs | Count::Incoming | Count::Selections | Count::Stages => true,
-        Count::Once | Count::Enabled | Count::Extended | Count::Parallel | Count::Serial => false,
     }
 }

@@ -3,13 +3,12 @@
 ghost use Rattle.std.specs.Prelude.{◌≡◌, IfErr, OnOk};
 ghost use Rattle.lg_parts.specs.Given.{seen_given};
 ghost use Rattle.lg_parts.specs.Judged.{AllFit, RowFits, EntryFits, Refuses, RefusesIn, RefusesAt};
-ghost use Rattle.lg_parts.specs.Rows.{seen_attribute};
+ghost use Rattle.lg_kinds.specs.Rows.{seen_attribute};
 
-use crate::entry::AttributeRow;
-use crate::fault::PartFault;
-use crate::given::{Given, name_at};
+use crate::given::Given;
 use crate::range::is_in;
-use crate::table::entry;
+use lg_kinds::rows::AttributeRow;
+use lg_kinds::{PartFault, entry, name_at};
 use lg_text::Text;
 use std::alloc::Global;
 

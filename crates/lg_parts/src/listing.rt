@@ -4,20 +4,16 @@ ghost use Rattle.std.specs.Prelude.{pos, neg_ℤ, ◌≤ℤ◌, ◌≡◌, ◌++
 ghost use Rattle.lg_parts.specs.Given.{seen_given, component};
 ghost use Rattle.lg_parts.specs.Judged.{AllFit, Refuses};
 ghost use Rattle.lg_parts.specs.Ports.{ports_of, row_ports, port_at, offset_at};
-ghost use Rattle.lg_parts.specs.Rows.{seen_port};
+ghost use Rattle.lg_kinds.specs.Rows.{seen_port};
 
-use crate::attrs::Attrs;
-use crate::entry::PortRow;
-use crate::fault::PartFault;
-use crate::given::{Given, name_at};
+use crate::given::Given;
 use crate::judge::judge;
-use crate::kind::Kind;
 use crate::place::{place_at, turned};
-use crate::port::Port;
-use crate::port_table::PortTable;
 use crate::size::size_of;
 use crate::splitter::push_ends;
-use crate::table::entry;
+use lg_attrs::Attrs;
+use lg_kinds::rows::PortRow;
+use lg_kinds::{Kind, PartFault, Port, PortTable, entry, name_at};
 use sqlite_items::Items;
 use std::alloc::{AllocError, Global};
 
@@ -73,7 +69,7 @@ fn port_at(alloc: Global, given: &Given, row: &PortRow, k: u32) -> Result<Port, 
     ensures { IfOk result (λ port. port ≡ port_at (seen_given given.now) (seen_port row.now) k) }
 {
     let (x, y) = offset_at(alloc, given, row, k)?;
-    let (dx, dy) = turned(given, x, y);
+    let (dx, dy) = turned(given.facing(), x, y);
     Ok(Port {
         dx,
         dy,

@@ -4,10 +4,10 @@ ghost use Rattle.std.specs.Prelude.{pos, neg_ℤ, ◌+ℤ◌, ◌≡◌, ◌+◌
 ghost use Rattle.lg_parts.specs.Given.{seen_given, is_flagged};
 ghost use Rattle.lg_parts.specs.Places.{place_at, gate_input, aside, turned, bubble};
 
-use crate::entry::{Count, Place};
 use crate::fan::{below_fan, fan_reach, fan_y};
 use crate::gate::gate_y;
 use crate::given::Given;
+use lg_kinds::rows::{Count, Place};
 use std::alloc::{AllocError, Global};
 
 // Where port number `k` stands, with the part facing east.
@@ -107,16 +107,16 @@ fn aside(given: &Given) -> i32
     }
 }
 
-// A place of a part that faces east, turned as the part is.
-pub fn turned(given: &Given, x: i32, y: i32) -> (i32, i32)
+/// A place of what faces east, turned as it faces: `facing` is `west`, `north`, `south`, or anything else for east.
+pub fn turned(facing: &str, x: i32, y: i32) -> (i32, i32)
     requires x { neg_ℤ (pos 2147483647) ≤ℤ x }
-    ensures { result ≡ turned (seen_given given.now) (x, y) }
+    ensures { result ≡ turned facing.now (x, y) }
 {
-    if given.is("facing", "west") {
+    if facing == "west" {
         (-x, y)
-    } else if given.is("facing", "north") {
+    } else if facing == "north" {
         (y, -x)
-    } else if given.is("facing", "south") {
+    } else if facing == "south" {
         (y, x)
     } else {
         (x, y)

@@ -1,17 +1,15 @@
 //! The ranges of attributes.
 
-ghost use Rattle.std.specs.Prelude.{ℕ, List, ◌≡◌, ◌^◌, ◌<◌, ◌≤◌, ◌↔◌, map, IsTrue};
-ghost use Rattle.std.specs.List.{list_any};
-ghost use Rattle.std.specs.Str.{bytes_eq};
-ghost use denote.Bor.{Bor};
+ghost use Rattle.std.specs.Prelude.{ℕ, ◌^◌, ◌<◌, ◌≤◌, ◌↔◌, IsTrue};
 ghost use Rattle.lg_memory.specs.Image.{Spells};
 ghost use Rattle.lg_parts.specs.Given.{seen_given};
 ghost use Rattle.lg_parts.specs.Ranges.{InRange, IsWithin, IsEnd, IsLiteral};
-ghost use Rattle.lg_parts.specs.Rows.{seen_range};
+ghost use Rattle.lg_kinds.specs.Rows.{seen_range};
 
 use crate::contents::{behind, is_contents};
-use crate::entry::Range;
 use crate::given::{Given, number_of};
+use lg_attrs::is_among;
+use lg_kinds::rows::Range;
 use lg_memory::read_number;
 
 // Whether a value is in a range.
@@ -31,18 +29,6 @@ pub fn is_in(range: Range, given: &Given, text: &str) -> bool
             given.number("dataWidth"),
         ),
     }
-}
-
-// Whether a text is one of these.
-pub fn is_among(text: &str, words: &[&str]) -> bool
-    ensures { result ≡ list_any (bytes_eq text.now) (map (λ (w : Bor (List ℕ)). w.now) words.now) }
-{
-    for word in words {
-        if text == *word {
-            return true;
-        }
-    }
-    false
 }
 
 fn is_within(text: &str, low: u32, high: u32) -> bool

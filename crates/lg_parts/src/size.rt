@@ -5,9 +5,9 @@ ghost use Rattle.lg_arith.specs.Count.{least_width};
 ghost use Rattle.lg_parts.specs.Given.{seen_given};
 ghost use Rattle.lg_parts.specs.Places.{size_of, select_width};
 
-use crate::entry::Size;
 use crate::given::Given;
 use lg_arith::least_width;
+use lg_kinds::rows::Size;
 
 // How many bits a port has; 0 for as many as there are.
 pub fn size_of(given: &Given, size: Size) -> u32

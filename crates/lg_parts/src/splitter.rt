@@ -5,10 +5,10 @@ ghost use Rattle.std.specs.List.{range_with_len};
 ghost use Rattle.lg_parts.specs.Given.{seen_given, number};
 ghost use Rattle.lg_parts.specs.SplitterEnds.{end_ports, ports_of_end, end_of, even_end, is_end};
 
-use crate::entry::Count;
 use crate::given::{Given, number_of};
-use crate::port::{Loose, Port, Side};
 use crate::splitter_place::end_place;
+use lg_kinds::rows::Count;
+use lg_kinds::{Loose, Port, Side};
 use sqlite_items::Items;
 use std::alloc::{AllocError, Global};
 

@@ -1,6 +1,15 @@
-//! Ports and refusals that a person worked out from the tables of the kinds.
+//! Ports, delays and refusals that a program of its own and a person worked out from the tables of the kinds.
 
-use crate::{Attrs, Kind, PartFault, Port, PortTable, kind_name, kind_of, ports, read_port_table};
+mod port_lists;
+mod ranges;
+
+use self::port_lists::PORT_LISTS;
+use self::ranges::RANGES;
+use crate::given::Given;
+use crate::{
+    Attrs, Kind, Loose, PartFault, PortTable, Side, delay, kind_of, ports, read_port_table,
+};
+use lg_kinds::{entry, name_at};
 use lg_text::Text;
 use sqlite_items::Items;
 use std::alloc::{AllocError, Global};
@@ -16,42 +25,119 @@ fn attrs_of(alloc: Global, pairs: &[(&str, &str)]) -> Result<Attrs, AllocError> 
     Ok(Attrs { list })
 }
 
-// Whether the ports stand at these places, with these widths.
-fn stand(ports: &[Port], rows: &[(i32, i32, u32)]) -> bool {
-    ports.len() == rows.len()
-        && ports.iter().zip(rows).all(|(port, row)| port.dx == row.0
-            && port.dy == row.1
-            && port.width == row.2)
+// The attributes that a text says, each as `name=value`.
+fn said(alloc: Global, text: &str) -> Result<Attrs, AllocError> {
+    let mut list = Items::new(alloc);
+    for word in text.split_whitespace() {
+        let (name, value) = word.split_once('=').unwrap_or((word, ""));
+        let name = Text::copy_of(alloc, name)?;
+        let value = Text::copy_of(alloc, value)?;
+        list.push((name, value))?;
+    }
+    Ok(Attrs { list })
 }
 
-// Whether a component has ports at these places, with these widths, where nothing is replaced.
-fn has_ports(alloc: Global, kind: Kind, pairs: &[(&str, &str)], rows: &[(i32, i32, u32)]) -> bool {
-    has_ports_by(alloc, kind, pairs, &PortTable::printed(alloc), rows)
+// A field and what is behind the next bar.
+fn cut(line: &str) -> (&str, &str) {
+    line.split_once('|').unwrap_or((line, ""))
 }
 
-// Whether a component has ports at these places, with these widths, by a port table.
-fn has_ports_by(
+// The names of the ports of a component, but for the ends of a splitter.
+fn names_of(alloc: Global, given: &Given) -> Result<Items<Text>, AllocError> {
+    let mut names = Items::new(alloc);
+    for row in entry(given.kind).ports {
+        for k in 0..given.count(row.2) {
+            let name = name_at(alloc, row.1, row.2, k)?;
+            names.push(name)?;
+        }
+    }
+    Ok(names)
+}
+
+fn side_word(side: Side) -> &'static str {
+    match side {
+        Side::In => "In",
+        Side::Out => "Out",
+        Side::Both => "Both",
+    }
+}
+
+fn loose_word(loose: Loose) -> &'static str {
+    match loose {
+        Loose::Ignored => "Ignored",
+        Loose::Zero => "Zero",
+        Loose::One => "One",
+        Loose::Unknown => "Unknown",
+    }
+}
+
+// The delay and the ports of a component as text.
+fn described(
     alloc: Global,
-    kind: Kind,
-    pairs: &[(&str, &str)],
+    name: &str,
+    attrs: &Attrs,
     table: &PortTable,
-    rows: &[(i32, i32, u32)],
-) -> bool {
-    let Ok(attrs) = attrs_of(alloc, pairs) else {
+) -> Result<String, PartFault> {
+    let kind = kind_of(alloc, Some("#Base"), name)?;
+    let list = ports(alloc, kind, attrs, table)?;
+    let names = names_of(alloc, &Given { kind, attrs, table })?;
+    let mut text = match delay(kind, attrs, table) {
+        Some(instants) => format!(in alloc; "{instants}|")?,
+        None => String::from_str(alloc, "-|")?,
+    };
+    for (place, port) in list.as_slice().iter().enumerate() {
+        let name = match names.get(place) {
+            Some(name) => name.as_str(),
+            None => "end",
+        };
+        let side = side_word(port.side);
+        let loose = loose_word(port.loose);
+        let (dx, dy, width) = (port.dx, port.dy, port.width);
+        let word = format!(in alloc; " {name}:{side}:{dx},{dy}:{width}:{loose}")?;
+        text.push_str(word.as_str())?;
+    }
+    Ok(text)
+}
+
+// Whether a component with attributes that a text says is described so, by a port table.
+fn is_described(alloc: Global, name: &str, text: &str, table: &PortTable, expected: &str) -> bool {
+    let Ok(attrs) = said(alloc, text) else {
         return false;
     };
-    match ports(alloc, kind, &attrs, table) {
-        Ok(list) => stand(list.as_slice(), rows),
+    match described(alloc, name, &attrs, table) {
+        Ok(found) => found.as_str() == expected,
+        Err(_) => false,
+    }
+}
+
+#[test]
+fn ports_and_delays_are_those_of_the_tables(rt: HostRuntime) {
+    let alloc = rt.alloc();
+    let table = PortTable::printed(alloc);
+    for line in PORT_LISTS.lines() {
+        let (name, rest) = cut(line);
+        let (attrs, expected) = cut(rest);
+        assert!(rt;
+            is_described(alloc, name, attrs, &table, expected),
+            "{line}"
+        );
+    }
+}
+
+// Whether a component is read with these attributes.
+fn is_read(alloc: Global, name: &str, attrs: &Attrs) -> bool {
+    match kind_of(alloc, Some("#Base"), name) {
+        Ok(kind) => ports(alloc, kind, attrs, &PortTable::printed(alloc)).is_ok(),
         Err(_) => false,
     }
 }
 
 // Whether a component is refused for this attribute.
-fn is_refused(alloc: Global, kind: Kind, pairs: &[(&str, &str)], bad: (&str, &str)) -> bool {
-    let Ok(attrs) = attrs_of(alloc, pairs) else {
+fn is_refused(alloc: Global, kind: &str, attrs: &Attrs, bad: (&str, &str)) -> bool {
+    let Ok(kind) = kind_of(alloc, Some("#Base"), kind) else {
         return false;
     };
-    match ports(alloc, kind, &attrs, &PortTable::printed(alloc)) {
+    match ports(alloc, kind, attrs, &PortTable::printed(alloc)) {
         Err(PartFault::BadAttr { name, value }) => {
             name.as_str() == bad.0 && value.as_str() == bad.1
         }
@@ -59,149 +145,181 @@ fn is_refused(alloc: Global, kind: Kind, pairs: &[(&str, &str)], bad: (&str, &st
     }
 }
 
-#[test]
-fn a_gate_is_turned_with_its_negated_input(rt: HostRuntime) {
-    let pairs = [
-        ("facing", "north"),
-        ("size", "30"),
-        ("inputs", "3"),
-        ("negate1", "true"),
-    ];
-    let rows = [(-10, 30, 1), (0, 40, 1), (10, 30, 1), (0, 0, 1)];
-    assert!(rt; has_ports(rt.alloc(), Kind::AndGate, &pairs, &rows));
+// Whether a value of an attribute beside others is read.
+fn reads(alloc: Global, kind: &str, others: &str, name: &str, value: &str) -> bool {
+    let Ok(text) = format!(in alloc; "{others} {name}={value}") else {
+        return false;
+    };
+    match said(alloc, text.as_str()) {
+        Ok(attrs) => is_read(alloc, kind, &attrs),
+        Err(_) => false,
+    }
+}
+
+// Whether a value of an attribute beside others is refused.
+fn refuses(alloc: Global, kind: &str, others: &str, name: &str, value: &str) -> bool {
+    let Ok(text) = format!(in alloc; "{others} {name}={value}") else {
+        return false;
+    };
+    match said(alloc, text.as_str()) {
+        Ok(attrs) => is_refused(alloc, kind, &attrs, (name, value)),
+        Err(_) => false,
+    }
 }
 
 #[test]
-fn a_multiplexer_has_its_select_above(rt: HostRuntime) {
-    let pairs = [
-        ("width", "8"),
-        ("select", "2"),
-        ("enable", "true"),
-        ("selloc", "tr"),
-    ];
-    let rows = [
-        (-40, -20, 8),
-        (-40, -10, 8),
-        (-40, 0, 8),
-        (-40, 10, 8),
-        (-20, -30, 2),
-        (-10, -30, 1),
-        (0, 0, 8),
-    ];
-    assert!(rt; has_ports(rt.alloc(), Kind::Multiplexer, &pairs, &rows));
+fn values_are_judged_at_both_ends_of_their_ranges(rt: HostRuntime) {
+    let alloc = rt.alloc();
+    for line in RANGES.lines() {
+        let (kind, rest) = cut(line);
+        let (others, rest) = cut(rest);
+        let (name, rest) = cut(rest);
+        let (inside, outside) = cut(rest);
+        for value in inside.split_whitespace() {
+            assert!(rt; reads(alloc, kind, others, name, value), "{line}: {value}");
+        }
+        for value in outside.split_whitespace() {
+            assert!(rt;
+                refuses(alloc, kind, others, name, value),
+                "{line}: {value}"
+            );
+        }
+    }
 }
 
-#[test]
-fn a_splitter_leaves_a_bit_out(rt: HostRuntime) {
-    let pairs = [
-        ("facing", "west"),
-        ("incoming", "4"),
-        ("appear", "right"),
-        ("bit3", "none"),
-    ];
-    let rows = [(0, 0, 4), (-20, -20, 2), (-20, -10, 1)];
-    assert!(rt; has_ports(rt.alloc(), Kind::Splitter, &pairs, &rows));
-}
+// Values with blanks or line ends, of a ROM unless another kind is named, and whether they are read.
+const TEXTS: &[(&str, &str, &str, bool)] = &[
+    ("ROM", "contents", "", true),
+    ("ROM", "contents", "addr/data: 08 8\r\n256*ff", true),
+    ("ROM", "contents", "addr/data: 8 8\n", true),
+    ("ROM", "contents", "addr/data: 8 8\n257*1", false),
+    ("ROM", "contents", "addr/data: 8 8\n100", false),
+    ("ROM", "contents", "addr/data: 8 9\n1", false),
+    ("ROM", "contents", "addr/data: 8 8", false),
+    ("ROM", "contents", " ", false),
+    ("Pin", "width", "", false),
+    ("Pin", "label", "", true),
+];
 
 #[test]
-fn a_selector_has_enough_select_bits(rt: HostRuntime) {
-    let pairs = [("width", "20"), ("group", "3")];
-    let rows = [(-30, 0, 20), (-10, 10, 3), (0, 0, 3)];
-    assert!(rt; has_ports(rt.alloc(), Kind::BitSelector, &pairs, &rows));
+fn texts_are_values_too(rt: HostRuntime) {
+    let alloc = rt.alloc();
+    for (kind, name, value, read) in TEXTS {
+        match attrs_of(alloc, &[(name, value)]) {
+            Ok(attrs) if *read => assert!(rt; is_read(alloc, kind, &attrs), "{value}"),
+            Ok(attrs) => assert!(rt; is_refused(alloc, kind, &attrs, (name, value)), "{value}"),
+            Err(_) => assert!(rt; false),
+        }
+    }
 }
+
+// Components with two values out of range, and the name and the value that are told.
+const FIRST: &str = "OR Gate|inputs=65 facing=up|facing|up
+OR Gate|negate1=no negate0=yes|negate0|yes
+Splitter|bit1=2 bit0=1 bit63=9|bit1|2
+Multiplexer|select=6 width=0|width|0
+BitSelector|group=9 width=65|width|65
+Pin|width=0 width=1|width|0";
 
 #[test]
 fn the_first_attribute_out_of_range_is_named(rt: HostRuntime) {
     let alloc = rt.alloc();
-    let gate = [("inputs", "65"), ("facing", "up")];
-    assert!(rt; is_refused(alloc, Kind::OrGate, &gate, ("facing", "up")));
-    let size = [("size", "050")];
-    assert!(rt; is_refused(alloc, Kind::OrGate, &size, ("size", "050")));
-    let bits = [("bit0", "1"), ("bit1", "2")];
-    assert!(rt; is_refused(alloc, Kind::Splitter, &bits, ("bit1", "2")));
+    for line in FIRST.lines() {
+        let (kind, rest) = cut(line);
+        let (text, bad) = cut(rest);
+        match said(alloc, text) {
+            Ok(attrs) => assert!(rt; is_refused(alloc, kind, &attrs, cut(bad)), "{line}"),
+            Err(_) => assert!(rt; false),
+        }
+    }
+}
+
+// Records of a port table, a component, and how it is described then.
+const REPLACED: &[(&str, &str, &str, &str)] = &[
+    (
+        "port,AND Gate,in1,-10000,10000\nport,AND Gate,in1,5,-7",
+        "AND Gate",
+        "facing=south negate1=true",
+        "1| in0:In:-20,-50:1:Ignored in1:In:-7,5:1:Ignored out:Out:0,0:1:Unknown",
+    ),
+    (
+        "port,Multiplexer,en,10000,-10000",
+        "Multiplexer",
+        "enable=true",
+        "3| in0:In:-30,-10:1:Unknown in1:In:-30,10:1:Unknown sel:In:-20,20:1:Unknown en:In:10000,-10000:1:One out:Out:0,0:1:Unknown",
+    ),
+    (
+        "delay,Adder,,1,\ndelay,Adder,,255,",
+        "Adder",
+        "width=4",
+        "255| a:In:-40,-10:4:Unknown b:In:-40,10:4:Unknown cin:In:-20,-20:1:Zero out:Out:0,0:4:Unknown cout:Out:-20,20:1:Unknown",
+    ),
+    (
+        "delay,Adder,,255,\ndelay,Adder,,1,\ndelay,Subtractor,,9,",
+        "Adder",
+        "width=4",
+        "1| a:In:-40,-10:4:Unknown b:In:-40,10:4:Unknown cin:In:-20,-20:1:Zero out:Out:0,0:4:Unknown cout:Out:-20,20:1:Unknown",
+    ),
+    ("delay,Pin,,7,", "Pin", "", "-| p:Both:0,0:1:Unknown"),
+    (
+        "default,AND Gate,inputs,64,\ndefault,AND Gate,inputs,3,",
+        "AND Gate",
+        "",
+        "1| in0:In:-50,-20:1:Ignored in1:In:-50,0:1:Ignored in2:In:-50,20:1:Ignored out:Out:0,0:1:Unknown",
+    ),
+    (
+        "default,AND Gate,facing,north,",
+        "AND Gate",
+        "",
+        "1| in0:In:-20,50:1:Ignored in1:In:20,50:1:Ignored out:Out:0,0:1:Unknown",
+    ),
+    (
+        "default,Shift Register,parallel,false,",
+        "Shift Register",
+        "width=4",
+        "8| si:In:0,30:4:Unknown sh:In:0,40:1:One clk:In:0,50:1:Unknown clr:In:0,20:1:Zero q:Out:100,80:4:Unknown",
+    ),
+    (
+        "default,Multiplier,width,0,",
+        "Multiplier",
+        "width=3",
+        "15| a:In:-40,-10:3:Unknown b:In:-40,10:3:Unknown cin:In:-20,-20:3:Zero out:Out:0,0:3:Unknown high:Out:-20,20:3:Unknown",
+    ),
+];
+
+// The port table with these records behind the header.
+fn table_of(alloc: Global, records: &str) -> Result<PortTable, PartFault> {
+    let text = format!(in alloc; "row,name,item,a,b\n{records}\n")?;
+    read_port_table(alloc, text.as_bytes())
 }
 
 #[test]
-fn the_contents_of_a_rom_have_no_more_words_than_addresses(rt: HostRuntime) {
+fn the_last_record_replaces_what_is_printed(rt: HostRuntime) {
     let alloc = rt.alloc();
-    let full = [("contents", "addr/data: 08 8\r\n256*ff")];
-    assert!(rt; has_ports(alloc, Kind::Rom, &full, &[(0, 10, 8), (240, 60, 8)]));
-    let over = "addr/data: 8 8\n257*1";
-    assert!(rt; is_refused(alloc, Kind::Rom, &[("contents", over)], ("contents", over)));
+    for (records, kind, attrs, expected) in REPLACED {
+        match table_of(alloc, records) {
+            Ok(table) => assert!(rt;
+                is_described(alloc, kind, attrs, &table, expected),
+                "{records}"
+            ),
+            Err(_) => assert!(rt; false, "{records}"),
+        }
+    }
 }
 
 #[test]
-fn kinds_have_names_in_accepted_libraries(rt: HostRuntime) {
+fn a_default_out_of_range_is_refused_where_it_is_used(rt: HostRuntime) {
     let alloc = rt.alloc();
-    let found = kind_of(alloc, Some("#I/O"), "J-K Flip-Flop");
-    assert!(rt; matches!(&found, Ok(kind) if kind_name(*kind) == "J-K Flip-Flop"));
-    let none = kind_of(alloc, None, "Pin");
-    assert!(rt; matches!(&none, Err(PartFault::OutsideLibrary { lib }) if lib.is_empty()));
-    let unknown = kind_of(alloc, Some("#Gates"), "Gate");
+    let empty = Attrs {
+        list: Items::new(alloc),
+    };
+    let Ok(table) = table_of(alloc, "default,OR Gate,inputs,65,") else {
+        assert!(rt; false);
+        return;
+    };
+    let refused = ports(alloc, Kind::OrGate, &empty, &table);
     assert!(rt;
-        matches!(&unknown, Err(PartFault::UnknownKind { name }) if name.as_str() == "Gate")
+        matches!(&refused, Err(PartFault::BadAttr { name, value }) if name.as_str() == "inputs" && value.as_str() == "65")
     );
-}
-
-#[test]
-fn the_printed_table_replaces_nothing(rt: HostRuntime) {
-    let table = PortTable::printed(rt.alloc());
-    assert!(rt; table.default_of(Kind::Pin, "width").is_none());
-    assert!(rt; table.sheet_row("main", "A").is_none());
-    assert!(rt; table.sheet_rows("main") == 0);
-}
-
-// Whether a port table is refused for the record of this number.
-fn is_bad(alloc: Global, text: &str, number: u32) -> bool {
-    let table = read_port_table(alloc, text.as_bytes());
-    matches!(&table, Err(PartFault::BadTable { row }) if *row == number)
-}
-
-#[test]
-fn a_later_record_replaces_an_earlier_one(rt: HostRuntime) {
-    let text =
-        "row,name,item,a,b\r\ncircuit,half,A,10,-0\r\ncircuit,half,B,0,5\r\ncircuit,half,A,-10000,30\r\ndefault,Register,width,16,\r\ndefault,Register,width,4,\r\n";
-    let table = read_port_table(rt.alloc(), text.as_bytes());
-    assert!(rt; matches!(&table, Ok(table) if table.sheet_row("half", "A") == Some((-10_000, 30))));
-    assert!(rt; matches!(&table, Ok(table) if table.sheet_rows("half") == 2));
-    assert!(rt;
-        matches!(&table, Ok(table) if table.default_of(Kind::Register, "width") == Some("4"))
-    );
-}
-
-#[test]
-fn a_port_stands_where_the_last_record_says(rt: HostRuntime) {
-    let alloc = rt.alloc();
-    let text =
-        "row,name,item,a,b\nport,NOT Gate,in,-90,0\ndelay,NOT Gate,,255,\nport,NOT Gate,in,-50,5\n";
-    let table = read_port_table(alloc, text.as_bytes());
-    assert!(rt;
-        matches!(&table, Ok(table) if has_ports_by(alloc, Kind::NotGate, &[("facing", "north")], table, &[(5, 50, 1), (0, 0, 1)]))
-    );
-}
-
-#[test]
-fn the_first_record_out_of_form_is_named(rt: HostRuntime) {
-    let alloc = rt.alloc();
-    assert!(rt; is_bad(alloc, "", 0));
-    assert!(rt; is_bad(alloc, "row,name,item,b,a\n", 0));
-    assert!(rt; is_bad(alloc, "row,name,item,a,b\ndelay,Adder,,0,\n", 1));
-    assert!(rt; is_bad(alloc, "row,name,item,a,b\ndelay,Adder,,256,\n", 1));
-    assert!(rt;
-        is_bad(
-            alloc,
-            "row,name,item,a,b\ndelay,Adder,,1,\ndelay,Adder,,256,\n",
-            2
-        )
-    );
-}
-
-#[test]
-fn ports_and_attributes_are_those_of_the_kind(rt: HostRuntime) {
-    let alloc = rt.alloc();
-    let gate = "row,name,item,a,b\nport,AND Gate,in63,0,0\nport,AND Gate,in64,0,0\n";
-    assert!(rt; is_bad(alloc, gate, 2));
-    assert!(rt; is_bad(alloc, "row,name,item,a,b\nport,Splitter,c,0,0\n", 1));
-    assert!(rt; is_bad(alloc, "row,name,item,a,b\ndefault,Probe,facing,west,\n", 1));
-    assert!(rt; is_bad(alloc, "row,name,item,a,b\ncircuit,half,A,+1,0\n", 1));
+    assert!(rt; ports(alloc, Kind::AndGate, &empty, &table).is_ok());
 }

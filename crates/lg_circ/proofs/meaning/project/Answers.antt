@@ -1,6 +1,6 @@
 use Rattle.std.proofs.Common.{◌∙◌, ap, List, ℕ}
 use Rattle.std.specs.Prelude.{codes}
-use Rattle.lg_circ.specs.Pairs.{value_under}
+use Rattle.lg_attrs.specs.Pairs.{value_under}
 use Rattle.lg_circ.specs.Meaning.{is_error, limit_of}
 use Rattle.lg_circ.proofs.Evidence.{project_says}
 use Rattle.lg_circ.proofs.meaning.project.Goals as goal

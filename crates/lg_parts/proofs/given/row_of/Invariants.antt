@@ -1,7 +1,7 @@
 use Rattle.std.proofs.Common.{◌≡◌, drop}
 use Rattle.std.specs.Prelude.{map, find}
 use Rattle.std.specs.Str.{bytes_eq}
-use Rattle.lg_parts.specs.Rows.{Attribute, seen_attribute}
+use Rattle.lg_kinds.specs.Rows.{Attribute, seen_attribute}
 use Rattle.lg_parts.proofs.given.row_of.Given as goal
 
 -- the rows so far have other names

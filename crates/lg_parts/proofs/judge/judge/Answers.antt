@@ -1,8 +1,8 @@
 use Rattle.std.proofs.Common.{ap, rules}
 use Rattle.lg_parts.specs.Given.{seen_given}
 use Rattle.lg_parts.specs.Judged.{RowFits, Refuses}
-use Rattle.lg_parts.specs.Rows.{seen_attribute, KindEntry}
-use Rattle.lg_parts.specs.Table.{entry}
+use Rattle.lg_kinds.specs.Rows.{seen_attribute, KindEntry}
+use Rattle.lg_kinds.specs.Table.{entry}
 use Rattle.lg_parts.proofs.JudgeLemmas.{rows_fit-more, rows_fit-all, refused_by}
 use Rattle.lg_parts.proofs.judge.judge.Goals as goal
 

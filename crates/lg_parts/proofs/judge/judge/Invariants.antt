@@ -3,7 +3,7 @@ use Rattle.std.specs.Prelude.{map}
 use Rattle.std.specs.List.{All}
 use Rattle.lg_parts.specs.Given.{seen_given}
 use Rattle.lg_parts.specs.Judged.{RowFits}
-use Rattle.lg_parts.specs.Rows.{seen_attribute}
+use Rattle.lg_kinds.specs.Rows.{seen_attribute}
 use Rattle.lg_parts.proofs.judge.judge.Given as goal
 
 -- the rows so far are in their ranges

@@ -1,6 +1,6 @@
 use Rattle.std.proofs.Common.{◌∙◌, rules}
 use Rattle.lg_parts.specs.Given.{seen_given}
-use Rattle.lg_parts.specs.Rows.{seen_attribute}
+use Rattle.lg_kinds.specs.Rows.{seen_attribute}
 use Rattle.lg_parts.proofs.JudgeLemmas.{fits_without, fits_with}
 use Rattle.lg_parts.proofs.judge.judge_one.Goals as goal
 

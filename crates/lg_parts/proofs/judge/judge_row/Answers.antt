@@ -2,7 +2,7 @@ use Rattle.std.proofs.Common.{arith}
 use borrow.Author.Count.{below_more}
 use Rattle.lg_parts.specs.Given.{seen_given}
 use Rattle.lg_parts.specs.Judged.{EntryFits}
-use Rattle.lg_parts.specs.Rows.{seen_attribute}
+use Rattle.lg_kinds.specs.Rows.{seen_attribute}
 use Rattle.lg_parts.proofs.judge.judge_row.Goals as goal
 
 pub loop-k-preserved : goal.loop-k-preserved

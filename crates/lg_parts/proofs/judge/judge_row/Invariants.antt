@@ -1,7 +1,7 @@
 use Rattle.std.proofs.Common.{ℕ, ◌<◌}
 use Rattle.lg_parts.specs.Given.{seen_given}
 use Rattle.lg_parts.specs.Judged.{EntryFits}
-use Rattle.lg_parts.specs.Rows.{seen_attribute}
+use Rattle.lg_kinds.specs.Rows.{seen_attribute}
 use Rattle.lg_parts.proofs.judge.judge_row.Given as goal
 
 -- the attributes so far are in their range

@@ -1,6 +1,6 @@
 use Rattle.lg_parts.specs.Given.{seen_given}
 use Rattle.lg_parts.specs.Ports.{row_ports}
-use Rattle.lg_parts.specs.Rows.{seen_port}
+use Rattle.lg_kinds.specs.Rows.{seen_port}
 use Rattle.lg_parts.proofs.GrowingLemmas.{grown_rows}
 use Rattle.lg_parts.proofs.listing.list_ports.Goals as goal
 

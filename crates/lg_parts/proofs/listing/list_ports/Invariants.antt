@@ -2,7 +2,7 @@ use Rattle.std.proofs.Common.{◌≡◌, map, take}
 use Rattle.std.specs.List.{flat_map}
 use Rattle.lg_parts.specs.Given.{seen_given}
 use Rattle.lg_parts.specs.Ports.{row_ports}
-use Rattle.lg_parts.specs.Rows.{seen_port}
+use Rattle.lg_kinds.specs.Rows.{seen_port}
 use Rattle.lg_parts.proofs.listing.list_ports.Given as goal
 
 -- the ports of the rows so far

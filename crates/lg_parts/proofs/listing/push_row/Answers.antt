@@ -1,6 +1,6 @@
 use Rattle.lg_parts.specs.Given.{seen_given}
 use Rattle.lg_parts.specs.Ports.{port_at}
-use Rattle.lg_parts.specs.Rows.{seen_port}
+use Rattle.lg_kinds.specs.Rows.{seen_port}
 use Rattle.lg_parts.proofs.GrowingLemmas.{grown_map}
 use Rattle.lg_parts.proofs.listing.push_row.Goals as goal
 

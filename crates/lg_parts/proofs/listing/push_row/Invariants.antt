@@ -2,7 +2,7 @@ use Rattle.std.proofs.Common.{◌≡◌, ◌++◌, map}
 use Rattle.std.specs.List.{range_with_len}
 use Rattle.lg_parts.specs.Given.{seen_given}
 use Rattle.lg_parts.specs.Ports.{port_at}
-use Rattle.lg_parts.specs.Rows.{seen_port}
+use Rattle.lg_kinds.specs.Rows.{seen_port}
 use Rattle.lg_parts.proofs.listing.push_row.Given as goal
 
 -- the ports of the row so far

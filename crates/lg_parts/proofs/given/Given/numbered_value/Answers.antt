@@ -1,8 +1,8 @@
 use Rattle.std.proofs.Common.{◌∙◌, ap}
 use denote.Bor.{Bor}
-use Rattle.lg_parts.specs.declared.entry.AttributeRow.{AttributeRow}
-use Rattle.lg_parts.specs.Given.{seen_given, value_of, name_at, row_of}
-use Rattle.lg_parts.specs.Rows.{Attribute, seen_attribute}
+use Rattle.lg_kinds.specs.declared.rows.AttributeRow.{AttributeRow}
+use Rattle.lg_parts.specs.Given.{seen_given, value_of, row_of}
+use Rattle.lg_kinds.specs.Rows.{Attribute, seen_attribute, name_at}
 use Rattle.lg_parts.proofs.RowLemmas.{follows_found}
 use Rattle.lg_parts.proofs.given.Given.numbered_value.Goals as goal
 

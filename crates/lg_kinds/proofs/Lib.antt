@@ -1,0 +1,7 @@
+mod LastLemmas
+mod IndexLemmas
+mod LatestLemmas
+mod KindLemmas
+mod CellLemmas
+mod FormLemmas
+mod TableLemmas

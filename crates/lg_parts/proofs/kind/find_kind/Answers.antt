@@ -1,5 +1,0 @@
-use Rattle.lg_parts.proofs.KindLemmas.{looked_up}
-use Rattle.lg_parts.proofs.kind.find_kind.Goals as goal
-
-pub returns : goal.returns
-returns c = looked_up c.args.name.now c.kind_named.result c.kind_named.ensures
