@@ -13,7 +13,7 @@ use Rattle.lg_netlist.specs.Static.{input_pins, output_pins, word_on, word_at, C
 use Rattle.lg_verilog.specs.declared.module.Assign.{Assign}
 use Rattle.lg_verilog.specs.declared.module.Module.{Module}
 use Rattle.lg_vrules.specs.Things.{width_of}
-use Rattle.lg_vterms.specs.Meaning.{Valuation}
+use Rattle.lg_vmachine.specs.Meaning.{Valuation}
 use Rattle.lg_vmeaning.specs.Solution.{AreNumbers}
 use Rattle.lg_vmeaning.specs.InOrder.{IsIn, sources}
 use Rattle.lg_vmeaning.proofs.InOrderLemmas.{Hold, solved, given_by, TheSolution-ordered}

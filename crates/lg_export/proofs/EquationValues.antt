@@ -13,7 +13,7 @@ use Rattle.lg_verilog.specs.declared.expr.Operator.{Operator}
 use Rattle.lg_verilog.specs.declared.expr.Operator.TheVariants as operator
 use Rattle.lg_verilog.specs.declared.module.Module.{Module}
 use Rattle.lg_vrules.specs.Things.{width_of}
-use Rattle.lg_vterms.specs.Meaning.{Valuation, number_of, form_number, memory_words, operator_value}
+use Rattle.lg_vmachine.specs.Meaning.{Valuation, number_of, form_number, memory_words, operator_value}
 use Rattle.lg_vmeaning.specs.InOrder.{IsIn, AgreeAt, ReadsOnly}
 use Rattle.lg_export.specs.Agreement.{nothing_kept}
 use Rattle.lg_export.specs.Layout.{equation, joined}

@@ -15,7 +15,7 @@ use Rattle.lg_gates.specs.Gate as gates
 use Rattle.lg_gates.proofs.GateLemmas.{gate_word-loose, loose_word}
 use Rattle.lg_netlist.specs.Cell.{cell_word}
 use Rattle.lg_netlist.specs.Static.{word_at}
-use Rattle.lg_vterms.specs.Meaning.{Valuation}
+use Rattle.lg_vmachine.specs.Meaning.{Valuation}
 use Rattle.lg_export.proofs.EquationValues.{folded, gate_number, IsBit-cases, StaysBit, bit_and-stays, bit_or-stays}
 use Rattle.lg_export.proofs.OneGateShape.{single}
 

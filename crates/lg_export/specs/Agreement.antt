@@ -6,7 +6,7 @@ use Rattle.lg_value.specs.Word.{IsDefined, number_of}
 use Rattle.lg_netlist.specs.declared.netlist.Netlist.{Netlist}
 use Rattle.lg_netlist.specs.Static.{input_pins, AreStaticValues, output_words, IsDefinedRow}
 use Rattle.lg_verilog.specs.declared.module.Module.{Module}
-use Rattle.lg_vterms.specs.Kept.{Kept}
+use Rattle.lg_vmachine.specs.Kept.{Kept}
 use Rattle.lg_vmeaning.specs.Solution.{HasOutputs}
 
 -- no register and no memory

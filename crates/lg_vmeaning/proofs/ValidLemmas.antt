@@ -23,14 +23,14 @@ use Rattle.lg_vrules.specs.Rules.{is_among, all_differ, is_named, is_of, is_no_c
 use Rattle.lg_vrules.proofs.GraphLemmas.{assign_at, place_tells, same_place}
 use Rattle.lg_vrules.proofs.IndexLemmas.{narrow_widths}
 use Rattle.lg_vrules.proofs.RuleLemmas.{KeepsRules, rules_kept, assigned_differ}
-use Rattle.lg_vterms.specs.Kept.{Kept}
-use Rattle.lg_vterms.specs.Meaning.{memory_words}
-use Rattle.lg_vmeaning.specs.Solution.{AreMemories, IsOf}
+use Rattle.lg_vmachine.specs.Kept.{Kept}
+use Rattle.lg_vmachine.specs.Meaning.{Valuation, memory_words}
+use Rattle.lg_vmeaning.specs.Solution.{AreNumbers, AreMemories, IsOf, IsTheSolution}
 use Rattle.lg_vmeaning.specs.InOrder.{IsIn, AllDiffer, IsGiven, AreOrdered, sources, ordered}
-use Rattle.lg_vmeaning.proofs.InOrderLemmas.{in_either}
+use Rattle.lg_vmeaning.proofs.InOrderLemmas.{in_either, solved, given_by, TheSolution-ordered}
 use Rattle.lg_vmeaning.proofs.NameLemmas.{found, IsLine, at_lines, line_name, in_among, line_found, named_line, found_in, found_passes, differ_in}
 use Rattle.lg_vmeaning.proofs.OrderLemmas.{At, IsEarlier, KeepOrder, in_order}
-use Rattle.lg_vterms.proofs.ReadLemmas.{reads_readable}
+use Rattle.lg_vmachine.proofs.ReadLemmas.{reads_readable}
 
 -- lists
 
@@ -288,6 +288,13 @@ module _ (m : Module) (order : List ℕ) (broken : first_broken m ≡ None) (is 
     same = same_assigns;
     all_given = at_lines (λ (l : List ℕ × ℕ). IsGiven (sources m) (ordered m order) l.0 × (width_of m l.0 ≡ l.1)) (lines_of is_readable m)
         (λ l here.
-            let f = line_found is_readable (things m) l names_differ here in
-            (given l.0 (of_found is_readable l.0 f.0 f.1 ∙ f.2), line_width is_readable l here));
+        let f = line_found is_readable (things m) l names_differ here in
+        (given l.0 (of_found is_readable l.0 f.0 f.1 ∙ f.2), line_width is_readable l here));
   }
+
+  -- a valid module has exactly one solution
+  pub one_solution : (kept : Kept) (row : List ℕ) → IsOf m kept → AreNumbers (lines_of is_input m) row → (value : Valuation) × IsTheSolution m kept row value
+  one_solution kept row of inputs = (
+    solved m kept (given_by (sources m) (row ++ kept.numbers)) (ordered m order),
+    TheSolution-ordered m kept row (ordered m order) (are_ordered kept of) inputs of.numbers,
+  )

@@ -12,8 +12,8 @@ use Rattle.lg_verilog.specs.declared.module.Stmt.TheVariants as stmt
 use Rattle.lg_verilog.specs.declared.module.Module.{Module}
 use Rattle.lg_vrules.specs.Rules.{stmts_of, fills_of, words_of, stored_name}
 use Rattle.lg_vrules.specs.Things.{names_of, is_output, is_reg, is_memory}
-use Rattle.lg_vterms.specs.Kept.{Kept}
-use Rattle.lg_vterms.specs.Meaning.{Valuation, number_of}
+use Rattle.lg_vmachine.specs.Kept.{Kept}
+use Rattle.lg_vmachine.specs.Meaning.{Valuation, number_of}
 use Rattle.lg_vmeaning.specs.Solution.{IsTheSolution}
 
 -- the number that fills a memory

@@ -9,8 +9,8 @@ use Rattle.lg_vrules.specs.declared.names.Sort.TheVariants as sort
 use Rattle.lg_vrules.specs.declared.names.Thing.{Thing}
 use Rattle.lg_vrules.specs.Rules.{last_place}
 use Rattle.lg_vrules.specs.Things.{sort_of, lines_of, names_of, is_input, is_output, is_reg, is_memory, is_readable}
-use Rattle.lg_vterms.specs.Kept.{Kept}
-use Rattle.lg_vterms.specs.Meaning.{Valuation, number_of}
+use Rattle.lg_vmachine.specs.Kept.{Kept}
+use Rattle.lg_vmachine.specs.Meaning.{Valuation, number_of}
 
 -- a number for each of these names, which its width can hold
 abbrev pub AreNumbers : List (List ℕ × ℕ) → List ℕ → Type 0

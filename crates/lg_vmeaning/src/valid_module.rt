@@ -3,8 +3,8 @@
 ghost use Rattle.std.specs.Prelude.{◌≡◌, ℕ, List, is_some};
 ghost use Rattle.lg_vrules.specs.Order.{IsOrder};
 ghost use Rattle.lg_vrules.specs.Things.{lines_of, is_input};
-ghost use Rattle.lg_vterms.specs.Kept.{Kept};
-ghost use Rattle.lg_vterms.specs.Meaning.{Valuation};
+ghost use Rattle.lg_vmachine.specs.Kept.{Kept};
+ghost use Rattle.lg_vmachine.specs.Meaning.{Valuation};
 ghost use Rattle.lg_vmeaning.specs.Solution.{AreNumbers, IsOf, IsTheSolution};
 ghost use Rattle.lg_vmeaning.specs.Valid.{IsValid};
 

@@ -1,0 +1,15 @@
+use Rattle.std.proofs.Common.{◌≡◌}
+use Rattle.std.proofs.lemmas.Result.{IfOk-weaker}
+use Rattle.lg_vrules.specs.Known.{width_under}
+use Rattle.lg_vrules.specs.Places.{place_under}
+use Rattle.lg_vmachine.specs.Resolved.{resolved, IsTermOf}
+use Rattle.lg_vmachine.proofs.ResolvedLemmas.{is_term}
+use Rattle.lg_vmachine.proofs.resolve.Resolver.resolve.Goals as goal
+
+pub returns-clause-number : goal.returns-clause-number
+returns-clause-number c =
+    let names = c.args.self.now.names.now in
+    let place = place_under c.args.self.now.numbers.now in
+    let memory = place_under c.args.self.now.memories.now in
+    IfOk-weaker c.turn.result (λ r. r ≡ resolved (width_under names) place memory c.args.expr.now) (IsTermOf names place memory c.args.expr.now)
+    (λ r is. is_term names place memory c.args.expr.now r is) c.turn.ensures

@@ -1,0 +1,5 @@
+pub mod Kept
+pub mod Meaning
+pub mod Terms
+pub mod Resolved
+pub mod Machine

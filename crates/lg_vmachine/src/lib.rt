@@ -1,0 +1,15 @@
+//! The numbers of expressions, and equations that are ready to be computed.
+#![tactic(auto)]
+
+mod arithmetic;
+mod machine;
+mod regs;
+mod resolve;
+mod term;
+#[cfg(test)]
+mod tests;
+
+pub use machine::{Machine, Write};
+pub use regs::Regs;
+pub use resolve::{Resolved, Resolver};
+pub use term::Term;

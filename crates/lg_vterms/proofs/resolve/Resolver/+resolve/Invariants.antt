@@ -1,9 +1,0 @@
-use Rattle.std.proofs.Common.{◌≡◌, map, fold, take}
-use Rattle.lg_vrules.specs.Known.{width_under}
-use Rattle.lg_vrules.specs.Places.{place_under}
-use Rattle.lg_vterms.specs.Resolved.{resolved, resolved_join}
-use Rattle.lg_vterms.proofs.resolve.Resolver.+resolve.Given as goal
-
-abbrev pub invariant-join_all-loop-expr : goal.invariant-join_all-loop-expr
-invariant-join_all-loop-expr l =
-    l.joined ≡ fold resolved_join l.fn.high (map (resolved (width_under l.fn.self.names.now) (place_under l.fn.self.numbers.now) (place_under l.fn.self.memories.now)) (take l.expr-index l.exprs))

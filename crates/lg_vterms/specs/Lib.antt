@@ -1,4 +1,0 @@
-pub mod Kept
-pub mod Meaning
-pub mod Terms
-pub mod Resolved
