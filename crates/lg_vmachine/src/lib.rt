@@ -9,7 +9,7 @@ mod term;
 #[cfg(test)]
 mod tests;
 
-pub use machine::{Machine, Write};
+pub use machine::{Machine, Write, put_word};
 pub use regs::Regs;
 pub use resolve::{Resolved, Resolver};
 pub use term::Term;

@@ -149,8 +149,8 @@ fn put_words(memories: &mut Vec<Items<u128>>, words: &[Option<(u128, u128)>])
     }
 }
 
-// Puts a word at a place of a memory, where there is that place.
-fn put_word(memories: &mut Vec<Items<u128>>, memory: usize, place: u128, value: u128)
+/// Puts a word at a place of one of the memories, where there is that place.
+pub fn put_word(memories: &mut Vec<Items<u128>>, memory: usize, place: u128, value: u128)
     ensures { memories.new.items ≡ put_word memories.old.items memory place value }
 {
     if memory < memories.len() && place < memories[memory].len() as u128 {

@@ -58,9 +58,9 @@ pub fn valid(alloc: Global, module: Module) -> Result<Valid, MeanFault>
     ensures is_valid { OnOk result (IsValid «module») }
     ensures fault { IfErr result (IsInvalid «module») }
 {
-    checked_names(alloc, &module)?;
+    let names = checked_names(alloc, &module)?;
     match assign_order(alloc, &module)? {
-        Dependence::Ordered(order) => Ok(Valid::new(module, order)),
+        Dependence::Ordered(order) => Ok(Valid::new(alloc, module, &names, order)?),
         Dependence::Cyclic(at) => {
             let wire = name_at(module.assigns.as_slice(), at);
             Err(MeanFault::Cyclic {
