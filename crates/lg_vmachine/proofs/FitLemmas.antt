@@ -64,7 +64,7 @@ at_most (Some t) w e =
     let small : t ≤ 128 = (let test = s.0 in search rules) in
     (ap (λ (n : ℕ). Some n) s.1, subst (λ n. n ≤ 128) s.1 small)
 
-constant_parts : (c : Constant) → constant_fits c ≡ true → (c.width ≤ 128) × (c.value < 2 ^ c.width)
+pub constant_parts : (c : Constant) → constant_fits c ≡ true → (c.width ≤ 128) × (c.value < 2 ^ c.width)
 constant_parts c test =
     let least = both (nat_le 1 c.width) (nat_le c.width 128 && nat_lt c.value (2 ^ c.width)) test in
     let others = both (nat_le c.width 128) (nat_lt c.value (2 ^ c.width)) least.1 in

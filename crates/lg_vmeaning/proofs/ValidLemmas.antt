@@ -39,16 +39,16 @@ all_at test [] i x pass e = absurd (cc e)
 all_at test (y ∷ xs) zero x pass e = ap test (sym (same_Some y x e)) ∙ (and_parts (test y) (list_all test xs) pass).0
 all_at test (y ∷ xs) (suc i) x pass e = all_at test xs i x (and_parts (test y) (list_all test xs) pass).1 e
 
-in_left : (xs ys : List (List ℕ)) (name : List ℕ) → IsIn xs name → IsIn (xs ++ ys) name
+pub in_left : (xs ys : List (List ℕ)) (name : List ℕ) → IsIn xs name → IsIn (xs ++ ys) name
 in_left [] ys name here = absurd here
 in_left (x ∷ xs) ys name (inl e) = inl e
 in_left (x ∷ xs) ys name (inr here) = inr (in_left xs ys name here)
 
-in_right : (xs ys : List (List ℕ)) (name : List ℕ) → IsIn ys name → IsIn (xs ++ ys) name
+pub in_right : (xs ys : List (List ℕ)) (name : List ℕ) → IsIn ys name → IsIn (xs ++ ys) name
 in_right [] ys name here = here
 in_right (x ∷ xs) ys name here = inr (in_right xs ys name here)
 
-differ_both : (xs ys : List (List ℕ)) → AllDiffer xs → AllDiffer ys → ((name : List ℕ) → IsIn xs name → IsIn ys name → ⊥) → AllDiffer (xs ++ ys)
+pub differ_both : (xs ys : List (List ℕ)) → AllDiffer xs → AllDiffer ys → ((name : List ℕ) → IsIn xs name → IsIn ys name → ⊥) → AllDiffer (xs ++ ys)
 differ_both [] ys dx dy apart = dy
 differ_both (x ∷ xs) ys dx dy apart = (
   λ here. elim (in_either xs ys x here) [
@@ -58,7 +58,7 @@ differ_both (x ∷ xs) ys dx dy apart = (
   differ_both xs ys dx.1 dy (λ name left right. apart name (inr left) right),
 )
 
-at_place : (assigns : List Assign) (name : List ℕ) → IsIn (map (λ (a : Assign). a.name) assigns) name → (at : ℕ) × (a : Assign) × At assigns at a × (a.name ≡ name)
+pub at_place : (assigns : List Assign) (name : List ℕ) → IsIn (map (λ (a : Assign). a.name) assigns) name → (at : ℕ) × (a : Assign) × At assigns at a × (a.name ≡ name)
 at_place [] name here = absurd here
 at_place (a ∷ assigns) name (inl e) = (0, a, refl, sym e)
 at_place (a ∷ assigns) name (inr here) = let r = at_place assigns name here in (suc r.0, r.1, r.2, r.3)
@@ -140,10 +140,10 @@ memory_within m (l ∷ lines) (words ∷ memories) are widths zero name e =
 memory_within m (l ∷ lines) (words ∷ memories) are widths (suc j) name e = memory_within m lines memories are.2 (λ l here. widths l (inr here)) j name e
 
 module _ (m : Module) (order : List ℕ) (broken : first_broken m ≡ None) (is : IsOrder m order) where
-  kept_rules : KeepsRules m
+  pub kept_rules : KeepsRules m
   kept_rules = rules_kept m broken
 
-  names_differ : all_differ (names m) ≡ true
+  pub names_differ : all_differ (names m) ≡ true
   names_differ = (and_parts (all_differ (names m)) (list_all (λ (p : Port). is_named (port_thing p)) m.ports) kept_rules.named).0
 
   all_once : (list_all (λ (a : Assign). is_of is_assignable (sort_of m) a.name) m.assigns ≡ true) × (has_each is_assignable (λ name. is_among name (assigned m)) m ≡ true)
@@ -153,17 +153,17 @@ module _ (m : Module) (order : List ℕ) (broken : first_broken m ≡ None) (is 
       and_parts assignable each (and_parts (all_differ (assigned m)) (assignable && each) kept_rules.assigned_once).1
 
   -- what is found under a name of a sort
-  of_found : (is : Sort → Bool) (name : List ℕ) (t : Thing) → found (things m) name ≡ Some t → is_of is (sort_of m) name ≡ is t.sort
+  pub of_found : (is : Sort → Bool) (name : List ℕ) (t : Thing) → found (things m) name ≡ Some t → is_of is (sort_of m) name ≡ is t.sort
   of_found is name t e = ap (λ (o : Option Thing). unwrap_or (option_map is (option_map (λ (t : Thing). t.sort) o)) false) e
 
-  found_of : (is : Sort → Bool) (name : List ℕ) → is_of is (sort_of m) name ≡ true → (t : Thing) × (found (things m) name ≡ Some t) × (is t.sort ≡ true)
+  pub found_of : (is : Sort → Bool) (name : List ℕ) → is_of is (sort_of m) name ≡ true → (t : Thing) × (found (things m) name ≡ Some t) × (is t.sort ≡ true)
   found_of is name e = step (found (things m) name) refl
     where
       step : (o : Option Thing) → found (things m) name ≡ o → (t : Thing) × (found (things m) name ≡ Some t) × (is t.sort ≡ true)
       step (Some t) f = (t, f, sym (of_found is name t f) ∙ e)
       step None f = absurd (false≢true (sym (ap (λ (o : Option Thing). unwrap_or (option_map is (option_map (λ (t : Thing). t.sort) o)) false) f) ∙ e))
 
-  found_name : (is : Sort → Bool) (name : List ℕ) → IsIn (names_of is m) name → (t : Thing) × (found (things m) name ≡ Some t) × (is t.sort ≡ true)
+  pub found_name : (is : Sort → Bool) (name : List ℕ) → IsIn (names_of is m) name → (t : Thing) × (found (things m) name ≡ Some t) × (is t.sort ≡ true)
   found_name is name here =
       let l = named_line is (things m) name here in
       let f = line_found is (things m) l.0 names_differ l.1 in
@@ -197,7 +197,7 @@ module _ (m : Module) (order : List ℕ) (broken : first_broken m ≡ None) (is 
       by_sort t sort.Clock e f readable = absurd (false≢true (sym (ap is_readable e) ∙ readable))
       by_sort t (sort.Memory last) e f readable = absurd (false≢true (sym (ap is_readable e) ∙ readable))
 
-  to_module : (i : ℕ) (a : Assign) → At (ordered m order) i a → (i < length order) × At m.assigns (slice_index order i) a
+  pub to_module : (i : ℕ) (a : Assign) → At (ordered m order) i a → (i < length order) × At m.assigns (slice_index order i) a
   to_module i a at =
       let lt : i < length order = subst (λ (n : ℕ). i < n) (ordered_count m.assigns order is.places) (slice_get_within (ordered m order) i a at) in
       (lt, sym (ordered_at m.assigns order is.places i lt) ∙ at)
@@ -205,12 +205,17 @@ module _ (m : Module) (order : List ℕ) (broken : first_broken m ≡ None) (is 
   from_place : (bound at : ℕ) (a : Assign) → At m.assigns at a → (before : ℕ) → before < length order → slice_index order before ≡ at → At (ordered m order) before a
   from_place bound at a stands before lt e = ordered_at m.assigns order is.places before lt ∙ (ap (slice_get m.assigns) e ∙ stands)
 
-  keeps : KeepOrder m (sources m) (ordered m order)
+  -- an assign's expression reads what is declared
+  pub declared_at : (at : ℕ) (a : Assign) → At m.assigns at a → reads_declared (sort_of m) a.value ≡ true
+  declared_at at a stands =
+      let uses = (and_parts (list_all (assign_uses (sort_of m)) m.assigns) _ (and_parts (list_all is_no_clock m.decls) _ kept_rules.used).1).0 in
+      (and_parts (is_of is_target (sort_of m) a.name) (reads_declared (sort_of m) a.value) (all_at (assign_uses (sort_of m)) m.assigns at a uses stands)).1
+
+  pub keeps : KeepOrder m (sources m) (ordered m order)
   keeps = record {
     reads = λ i a at name here.
         let place = to_module i a at in
-        let uses = (and_parts (list_all (assign_uses (sort_of m)) m.assigns) _ (and_parts (list_all is_no_clock m.decls) _ kept_rules.used).1).0 in
-        let reads = (and_parts (is_of is_target (sort_of m) a.name) (reads_declared (sort_of m) a.value) (all_at (assign_uses (sort_of m)) m.assigns (slice_index order i) a uses place.1)).1 in
+        let reads = declared_at (slice_index order i) a place.1 in
         elim (given_kind name (reads_readable (sort_of m) a.value reads name here)) [
           | inl known ↦ inl known
           | inr given ↦
@@ -255,7 +260,7 @@ module _ (m : Module) (order : List ℕ) (broken : first_broken m ≡ None) (is 
         to_contains m.assigns (slice_index order at.0) a (to_module at.0 a at.1).1,
   )
 
-  given : (name : List ℕ) → is_of is_readable (sort_of m) name ≡ true → IsGiven (sources m) (ordered m order) name
+  pub given : (name : List ℕ) → is_of is_readable (sort_of m) name ≡ true → IsGiven (sources m) (ordered m order) name
   given name e = elim (given_kind name e) [
     | inl known ↦ inl known
     | inr there ↦
@@ -264,12 +269,12 @@ module _ (m : Module) (order : List ℕ) (broken : first_broken m ≡ None) (is 
         inr (subst (IsIn (map (λ (a : Assign). a.name) (ordered m order))) b.3 (at_name (ordered m order) before.0 b.1 (from_place b.0 b.0 b.1 b.2 before.0 before.1 before.2)))
   ]
 
-  line_width : (is : Sort → Bool) (l : List ℕ × ℕ) → IsLine (lines_of is m) l → width_of m l.0 ≡ l.1
+  pub line_width : (is : Sort → Bool) (l : List ℕ × ℕ) → IsLine (lines_of is m) l → width_of m l.0 ≡ l.1
   line_width is l here =
       let f = line_found is (things m) l names_differ here in
       ap (λ (o : Option Thing). unwrap_or (option_map (λ (t : Thing). range_width t.high) o) 0) f.1 ∙ f.3
 
-  words_within : (kept : Kept) → IsOf m kept → (name : List ℕ) → AllByRecursion (λ (word : ℕ). word < 2 ^ width_of m name) (memory_words m kept name)
+  pub words_within : (kept : Kept) → IsOf m kept → (name : List ℕ) → AllByRecursion (λ (word : ℕ). word < 2 ^ width_of m name) (memory_words m kept name)
   words_within kept of name = step (place_from 0 (names_of is_memory m) name) refl
     where
       step : (o : Option ℕ) → place_from 0 (names_of is_memory m) name ≡ o → AllByRecursion (λ (word : ℕ). word < 2 ^ width_of m name) (unwrap_or (option_and_then (slice_get kept.memories) o) [])
@@ -279,11 +284,15 @@ module _ (m : Module) (order : List ℕ) (broken : first_broken m ≡ None) (is 
           let at : t.0 ≡ k = omega (arith, t.1) in
           memory_within m (lines_of is_memory m) kept.memories of.memories (line_width is_memory) k name (subst (λ (j : ℕ). slice_get (names_of is_memory m) j ≡ Some name) at t.2)
 
+  -- the names of inputs and registers differ
+  pub sources_apart : AllDiffer (sources m)
+  sources_apart = differ_both (names_of is_input m) (names_of is_reg m) (differ_in is_input (things m) names_differ) (differ_in is_reg (things m) names_differ)
+      (λ name input register. let f = found_name is_reg name register in not_both is_input is_reg input_reg name input (of_found is_reg name f.0 f.1 ∙ f.2))
+
   -- a valid module's assigns, in such an order of their places, are its equations in order
   pub are_ordered : (kept : Kept) → IsOf m kept → AreOrdered m kept (ordered m order)
   are_ordered kept of = record {
-    sources_differ = differ_both (names_of is_input m) (names_of is_reg m) (differ_in is_input (things m) names_differ) (differ_in is_reg (things m) names_differ)
-        (λ name input register. let f = found_name is_reg name register in not_both is_input is_reg input_reg name input (of_found is_reg name f.0 f.1 ∙ f.2));
+    sources_differ = sources_apart;
     in_order = in_order m kept (narrow_widths m kept_rules.narrow) (words_within kept of) (sources m) (ordered m order) keeps;
     same = same_assigns;
     all_given = at_lines (λ (l : List ℕ × ℕ). IsGiven (sources m) (ordered m order) l.0 × (width_of m l.0 ≡ l.1)) (lines_of is_readable m)

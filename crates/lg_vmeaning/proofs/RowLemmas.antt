@@ -1,0 +1,63 @@
+-- What a compiled module computes for a row is what the module means.
+use Rattle.std.proofs.Common.{◌≡◌, ℕ, ◌<◌, ◌^◌, List, ◌∷◌, ◌++◌, map, slice_index_or, sym, ap, subst, ◌∙◌}
+use Rattle.std.specs.Prelude.{All}
+use Rattle.lg_verilog.specs.declared.module.Module.{Module}
+use Rattle.lg_vrules.specs.Things.{lines_of, names_of, is_input, is_output}
+use Rattle.lg_vmachine.specs.Kept.{Kept}
+use Rattle.lg_vmachine.specs.Meaning.{Valuation}
+use Rattle.lg_vmachine.specs.Machine.{run, stored_by}
+use Rattle.lg_vmachine.specs.declared.machine.Machine.{Machine}
+use Rattle.lg_vmeaning.specs.declared.ports.PortLine.{PortLine}
+use Rattle.lg_vmeaning.specs.Solution.{AreNumbers, IsOf, IsTheSolution, HasOutputs}
+use Rattle.lg_vmeaning.specs.Rows.{after_edge, IsAfterEdge, AreRows}
+use Rattle.lg_vmeaning.specs.Compiled.{machine_of, IsCompiled, IsStep}
+use Rattle.lg_vmeaning.proofs.RunLemmas.{the_value, the_numbers, is_the_solution, term_is, run_is, outputs_are as machine_outputs_are, outputs_small as machine_outputs_small}
+use Rattle.lg_vmeaning.proofs.EdgeLemmas.{after_is_of, stored_is}
+
+-- the outputs among some numbers
+abbrev pub read_outputs : List ℕ → Machine → List ℕ
+read_outputs numbers machine = map (λ (place : ℕ). slice_index_or numbers place 0) machine.outputs
+
+module _ (m : Module) (order : List ℕ) (ins outs : List PortLine) (machine : Machine) (c : IsCompiled m order ins outs machine)
+    (kept : Kept) (of : IsOf m kept) (row : List ℕ) (fits : AreNumbers (lines_of is_input m) row)
+    (numbers : List ℕ) (computed : numbers ≡ run kept.memories (row ++ kept.numbers) machine.equations) where
+  value : Valuation
+  value = the_value m order kept row
+
+  numbers_are : numbers ≡ the_numbers m order kept row
+  numbers_are =
+      computed
+      ∙ (ap (λ (x : Machine). run kept.memories (row ++ kept.numbers) x.equations) c.machine ∙ run_is m order c.valid.rules c.order kept of row fits)
+
+  solution : IsTheSolution m kept row value
+  solution = is_the_solution m order c.valid.rules c.order kept of row fits
+
+  outputs_are : read_outputs numbers machine ≡ map value (names_of is_output m)
+  outputs_are = (λ i. read_outputs (numbers_are i) (c.machine i)) ∙ machine_outputs_are m order c.valid.rules c.order kept of row fits
+
+  stored_are : stored_by machine numbers kept ≡ after_edge m kept value
+  stored_are =
+      (λ i. stored_by (c.machine i) (numbers_are i) kept)
+      ∙ stored_is m order c.valid.rules c.order kept of row fits value (the_numbers m order kept row) (term_is m order c.valid.rules c.order kept of row fits)
+
+  pub outputs_small : All (λ (place : ℕ). slice_index_or numbers place 0 < 2 ^ 64) machine.outputs
+  outputs_small =
+      subst (λ (ns : List ℕ). All (λ (place : ℕ). slice_index_or ns place 0 < 2 ^ 64) machine.outputs) (sym numbers_are)
+      (subst (λ (x : Machine). All (λ (place : ℕ). slice_index_or (the_numbers m order kept row) place 0 < 2 ^ 64) x.outputs) (sym c.machine)
+      (machine_outputs_small m order c.valid.rules c.order kept of row fits))
+
+  pub has_outputs : (outputs : List ℕ) → outputs ≡ read_outputs numbers machine → HasOutputs m kept row outputs
+  has_outputs outputs e = record { value = value; solution = solution; gives = sym (e ∙ outputs_are) }
+
+  pub is_after_edge : (after : Kept) → after ≡ stored_by machine numbers kept → IsAfterEdge m kept row after
+  is_after_edge after e = record { value = value; solution = solution; stored = e ∙ stored_are }
+
+  pub fits_again : (after : Kept) → after ≡ stored_by machine numbers kept → IsOf m after
+  fits_again after e = subst (IsOf m) (sym (e ∙ stored_are)) (after_is_of m order c.valid.rules c.order kept of row fits value solution)
+
+  pub is_step : (outputs : List ℕ) (after : Kept) → outputs ≡ read_outputs numbers machine → after ≡ stored_by machine numbers kept → IsStep m kept row outputs after
+  is_step outputs after e f = record { value = value; solution = solution; gives = sym (e ∙ outputs_are); stored = f ∙ stored_are; fits = fits_again after f }
+
+-- a row, and then the rows after it
+pub row_first : (m : Module) (kept after : Kept) (row outputs : List ℕ) (rows more : List (List ℕ)) → IsStep m kept row outputs after → AreRows m after rows more → AreRows m kept (row ∷ rows) (outputs ∷ more)
+row_first m kept after row outputs rows more s rest = (s.value, s.solution, s.gives, subst (λ (k : Kept). AreRows m k rows more) s.stored rest)

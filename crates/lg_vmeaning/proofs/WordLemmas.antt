@@ -1,0 +1,156 @@
+-- Memories at the start: words that are put one after another, each into the memory of its name.
+use Rattle.std.proofs.Common.{◌≡◌, ℕ, suc, ◌+◌, Bool, true, false, cond, ◌&&◌, List, [], ◌∷◌, map, fold, Option, Some, None, refl, sym, ap, subst, ◌∙◌}
+use Rattle.std.specs.Prelude.{not, option_map, option_and_then, unwrap_or, filter_map, replicate, slice_get, slice_set}
+use Rattle.std.specs.Str.{bytes_eq}
+use Rattle.std.proofs.lemmas.Bool.{and_parts, false≢true}
+use Rattle.std.proofs.lemmas.Slice.Eq.{bytes_eq-Decides}
+use Rattle.lg_verilog.specs.declared.module.Decl.{Decl}
+use Rattle.lg_verilog.specs.declared.module.Decl.TheVariants as decl
+use Rattle.lg_verilog.specs.declared.module.Fill.{Fill}
+use Rattle.lg_verilog.specs.declared.module.Word.{Word}
+use Rattle.lg_verilog.specs.declared.module.Module.{Module}
+use Rattle.lg_vrules.specs.declared.places.Places.{Places}
+use Rattle.lg_vrules.specs.Rules.{is_among, all_differ, words_of, fills_of, filled}
+use Rattle.lg_vrules.specs.Things.{decl_thing, names_of, is_memory}
+use Rattle.lg_vrules.specs.Places.{place_under, place_from, KnowsPlaces}
+use Rattle.lg_vrules.proofs.NameLemmas.{not_true}
+use Rattle.lg_vmachine.specs.Machine.{put_word}
+use Rattle.lg_vmeaning.specs.declared.kept_names.Storage.TheVariants as storage
+use Rattle.lg_vmeaning.specs.Rows.{filled_with, with_word, start_memory}
+use Rattle.lg_vmeaning.specs.Starting.{filled_memory, filled_by, with_word_by}
+use Rattle.lg_vmeaning.proofs.NameLemmas.{names_in}
+use Rattle.lg_vmeaning.proofs.SortLemmas.{kept_lines, first_of_line}
+use Rattle.lg_vmeaning.proofs.SpotLemmas.{spot, spot_is, same_names, found_at}
+
+-- a memory with its name
+abbrev Named : Type 0
+Named = List ℕ × List ℕ
+
+abbrev its_names : List Named → List (List ℕ)
+its_names all = map (λ (p : Named). p.0) all
+
+abbrev its_words : List Named → List (List ℕ)
+its_words all = map (λ (p : Named). p.1) all
+
+abbrev after : Word → Named → Named
+after w p = (p.0, with_word p.0 p.1 w)
+
+-- memories after a word at the place of one of them
+abbrev put : Option ℕ → Word → List (List ℕ) → List (List ℕ)
+put None w memories = memories
+put (Some k) w memories = put_word memories k w.place w.value.value
+
+put_later : (o : Option ℕ) (w : Word) (words : List ℕ) (memories : List (List ℕ)) → put (option_map suc o) w (words ∷ memories) ≡ words ∷ put o w memories
+put_later None w words memories = refl
+put_later (Some k) w words memories = refl
+
+-- a word of another name changes nothing
+untouched : (w : Word) (name : List ℕ) (words : List ℕ) → bytes_eq name w.name ≡ false → with_word name words w ≡ words
+untouched w name words apart = step (bytes_eq w.name name) refl
+  where
+    step : (b : Bool) → bytes_eq w.name name ≡ b → cond b (slice_set words w.place w.value.value) words ≡ words
+    step false e = refl
+    step true e = absurd (false≢true (sym apart ∙ same_names w.name name e))
+
+touched : (w : Word) (name : List ℕ) (words : List ℕ) → bytes_eq name w.name ≡ true → with_word name words w ≡ slice_set words w.place w.value.value
+touched w name words same = let e : bytes_eq w.name name ≡ true = same_names name w.name same in rw e refl
+
+none_touched : (w : Word) (all : List Named) → is_among w.name (its_names all) ≡ false → its_words (map (after w) all) ≡ its_words all
+none_touched w [] fresh = refl
+none_touched w (p ∷ all) fresh = step (bytes_eq p.0 w.name) refl fresh (none_touched w all)
+  where
+    step : (b : Bool) → bytes_eq p.0 w.name ≡ b → is_among w.name (its_names (p ∷ all)) ≡ false → (is_among w.name (its_names all) ≡ false → its_words (map (after w) all) ≡ its_words all)
+        → its_words (map (after w) (p ∷ all)) ≡ its_words (p ∷ all)
+    step true e fresh rest = absurd (false≢true (sym fresh ∙ (rw e refl)))
+    step false e fresh rest =
+        let here : with_word p.0 p.1 w ≡ p.1 = untouched w p.0 p.1 e in
+        let more : is_among w.name (its_names all) ≡ false = (let f : is_among w.name (its_names (p ∷ all)) ≡ is_among w.name (its_names all) = rw e refl in sym f ∙ fresh) in
+        (λ i. here i ∷ rest more i)
+
+-- a word is put into the memory of its name
+word_put : (all : List Named) (w : Word) → all_differ (its_names all) ≡ true → put (spot (its_names all) w.name) w (its_words all) ≡ its_words (map (after w) all)
+word_put [] w differ = refl
+word_put (p ∷ all) w differ =
+    let both = and_parts (not (is_among p.0 (its_names all))) (all_differ (its_names all)) differ in
+    step (bytes_eq p.0 w.name) refl (not_true (is_among p.0 (its_names all)) both.0) (word_put all w both.1)
+  where
+    step : (b : Bool) → bytes_eq p.0 w.name ≡ b → is_among p.0 (its_names all) ≡ false → put (spot (its_names all) w.name) w (its_words all) ≡ its_words (map (after w) all)
+        → put (spot (its_names (p ∷ all)) w.name) w (its_words (p ∷ all)) ≡ its_words (map (after w) (p ∷ all))
+    step true e fresh rest =
+        let name : p.0 ≡ w.name = (bytes_eq-Decides p.0 w.name).0 e in
+        let others : its_words (map (after w) all) ≡ its_words all = none_touched w all (ap (λ n. is_among n (its_names all)) (sym name) ∙ fresh) in
+        let here : with_word p.0 p.1 w ≡ slice_set p.1 w.place w.value.value = touched w p.0 p.1 e in
+        rw e (λ i. sym here i ∷ sym others i)
+    step false e fresh rest =
+        let here : with_word p.0 p.1 w ≡ p.1 = untouched w p.0 p.1 e in
+        rw e (put_later (spot (its_names all) w.name) w p.1 (its_words all) ∙ (λ i. sym here i ∷ rest i))
+
+abbrev after_all : List Word → Named → Named
+after_all words p = (p.0, fold (with_word p.0) p.1 words)
+
+names_stay : (w : Word) (all : List Named) → its_names (map (after w) all) ≡ its_names all
+names_stay w [] = refl
+names_stay w (p ∷ all) = ap (λ names. p.0 ∷ names) (names_stay w all)
+
+together : (w : Word) (words : List Word) (all : List Named) → its_words (map (after_all words) (map (after w) all)) ≡ its_words (map (after_all (w ∷ words)) all)
+together w words [] = refl
+together w words (p ∷ all) = ap (λ more. fold (with_word p.0) (with_word p.0 p.1 w) words ∷ more) (together w words all)
+
+all_untouched : (all : List Named) → its_words all ≡ its_words (map (after_all []) all)
+all_untouched [] = refl
+all_untouched (p ∷ all) = ap (λ more. p.1 ∷ more) (all_untouched all)
+
+put_by : (places : Places) (names : List (List ℕ)) (memories : List (List ℕ)) (w : Word) → KnowsPlaces names places → with_word_by places memories w ≡ put (spot names w.name) w memories
+put_by places names memories w knows = step (place_under places w.name) refl ∙ ap (λ o. put o w memories) (knows.known w.name ∙ spot_is names w.name)
+  where
+    step : (o : Option ℕ) → place_under places w.name ≡ o → with_word_by places memories w ≡ put (place_under places w.name) w memories
+    step None e = rw e refl
+    step (Some k) e = rw e refl
+
+words_put : (places : Places) (all : List Named) (words : List Word) → KnowsPlaces (its_names all) places → all_differ (its_names all) ≡ true
+    → fold (with_word_by places) (its_words all) words ≡ its_words (map (after_all words) all)
+words_put places all [] knows differ = all_untouched all
+words_put places all (w ∷ words) knows differ =
+    let names : its_names all ≡ its_names (map (after w) all) = sym (names_stay w all) in
+    ap (λ memories. fold (with_word_by places) memories words) (put_by places (its_names all) (its_words all) w knows ∙ word_put all w differ)
+    ∙ (words_put places (map (after w) all) words (subst (λ n. KnowsPlaces n places) names knows) (ap all_differ (sym names) ∙ differ)
+    ∙ together w words all)
+
+-- the memories of declarations, filled
+abbrev filled_named : Module → Decl → Option Named
+filled_named m (decl.Memory range name last) = Some (name, replicate (last + 1) (filled_with m name))
+filled_named m (decl.Wire range name) = None
+filled_named m (decl.Reg range name start) = None
+
+named_words : (m : Module) (decls : List Decl) → filter_map (filled_memory m) decls ≡ its_words (filter_map (filled_named m) decls)
+named_words m [] = refl
+named_words m (decl.Wire range name ∷ decls) = named_words m decls
+named_words m (decl.Reg range name start ∷ decls) = named_words m decls
+named_words m (decl.Memory range name last ∷ decls) = ap (λ more. replicate (last + 1) (filled_with m name) ∷ more) (named_words m decls)
+
+named_start : (m : Module) (decls : List Decl) → its_words (map (after_all (words_of m)) (filter_map (filled_named m) decls)) ≡ filter_map (start_memory m) decls
+named_start m [] = refl
+named_start m (decl.Wire range name ∷ decls) = named_start m decls
+named_start m (decl.Reg range name start ∷ decls) = named_start m decls
+named_start m (decl.Memory range name last ∷ decls) = ap (λ more. fold (with_word name) (replicate (last + 1) (filled_with m name)) (words_of m) ∷ more) (named_start m decls)
+
+named_names : (m : Module) (decls : List Decl) → its_names (filter_map (filled_named m) decls) ≡ names_in is_memory (map decl_thing decls)
+named_names m [] = refl
+named_names m (decl.Wire range name ∷ decls) = named_names m decls
+named_names m (decl.Reg range name start ∷ decls) = named_names m decls
+named_names m (decl.Memory range name last ∷ decls) = ap (λ more. name ∷ more) (named_names m decls)
+
+-- filled memories with the words of the init are the memories at the start
+pub start_memories : (m : Module) (places : Places) → KnowsPlaces (names_of is_memory m) places → all_differ (names_of is_memory m) ≡ true
+    → fold (with_word_by places) (filter_map (filled_memory m) m.decls) (words_of m) ≡ filter_map (start_memory m) m.decls
+start_memories m places knows differ =
+    let named = filter_map (filled_named m) m.decls in
+    let names : names_of is_memory m ≡ its_names named = ap (map first_of_line) (kept_lines storage.Memory m) ∙ sym (named_names m m.decls) in
+    ap (λ memories. fold (with_word_by places) memories (words_of m)) (named_words m m.decls)
+    ∙ (words_put places named (words_of m) (subst (λ n. KnowsPlaces n places) names knows) (ap all_differ (sym names) ∙ differ) ∙ named_start m m.decls)
+
+-- the number that fills the memory of a name
+pub filled_is : (m : Module) (places : Places) (name : List ℕ) → KnowsPlaces (filled m) places → filled_by places (fills_of m) name ≡ filled_with m name
+filled_is m places name knows =
+    ap (λ (o : Option Fill). unwrap_or (option_map (λ (f : Fill). f.value.value) o) 0)
+    (ap (λ (o : Option ℕ). option_and_then (slice_get (fills_of m)) o) (knows.known name) ∙ found_at (λ (f : Fill). f.name) (fills_of m) name)

@@ -1,0 +1,8 @@
+use Rattle.std.proofs.Common.{◌≡◌, map, take}
+use Rattle.std.specs.Prelude.{filter_map, slice_get}
+use Rattle.lg_vmeaning.specs.ByName.{term_by}
+use Rattle.lg_vmeaning.proofs.compiling.equations.Given as goal
+
+-- the terms so far
+abbrev pub invariant-loop-place : goal.invariant-loop-place
+invariant-loop-place l = l.terms ≡ map (λ assign. term_by l.resolver assign.value) (filter_map (slice_get l.assigns) (take l.place-index l.order))
