@@ -141,28 +141,6 @@ fn an_edge_reads_the_word_that_it_writes(rt: HostRuntime) -> Result<(), Fail> {
 }
 
 #[test]
-fn two_registers_exchange_their_numbers(rt: HostRuntime) -> Result<(), Fail> {
-    let alloc = rt.alloc();
-    let mut registers = Items::new(alloc);
-    registers.push(Some(Term::Number(1)))?;
-    registers.push(Some(Term::Number(0)))?;
-    let machine = Machine {
-        equations: Items::new(alloc),
-        outputs: Items::new(alloc),
-        registers,
-        memories: Items::new(alloc),
-    };
-    let mut regs = Regs {
-        numbers: [3, 5].to_vec(alloc)?,
-        memories: Vec::new(alloc),
-    };
-    let solved = machine.solve(alloc, &regs, &[]).ok().ok_or("memory")?;
-    assert!(rt; machine.store(alloc, &mut regs, solved.as_slice()).is_ok());
-    assert_eq!(rt; regs.numbers.as_slice(), [5, 3].as_slice());
-    Ok(())
-}
-
-#[test]
 fn outputs_are_the_numbers_at_their_places(rt: HostRuntime) -> Result<(), Fail> {
     let alloc = rt.alloc();
     let machine = counter(alloc)?;
