@@ -1,5 +1,5 @@
 -- What an edge stores: registers and memories stay of their module, and the machine stores what the module does.
-use Rattle.std.proofs.Common.{◌≡◌, ℕ, zero, suc, ◌+◌, ◌<◌, ◌^◌, nat_eq, Bool, true, false, cond, ◌&&◌, List, [], ◌∷◌, length, map, Option, Some, None, refl, sym, ap, subst, ◌∙◌, arith, rules, inl, inr}
+use Rattle.std.proofs.Common.{◌≡◌, ℕ, suc, ◌+◌, ◌<◌, ◌^◌, nat_eq, Bool, true, false, cond, ◌&&◌, List, [], ◌∷◌, length, map, Option, Some, None, refl, sym, ap, subst, ◌∙◌, arith, rules, inl, inr}
 use Rattle.std.specs.Prelude.{option_map, unwrap_or, is_some, zip, slice_set}
 use Rattle.std.specs.List.{AllByRecursion, list_all}
 use Rattle.std.specs.Str.{bytes_eq}
@@ -32,10 +32,12 @@ use Rattle.lg_vmeaning.proofs.ValidLemmas.{found_of, line_width, words_within}
 
 -- statements
 
+-- a width that passes the test is the wanted one
 width_is : (o : Option ℕ) (wanted : ℕ) → unwrap_or (option_map (λ (w : ℕ). nat_eq w wanted) o) false ≡ true → o ≡ Some wanted
 width_is None wanted e = absurd (cc e)
 width_is (Some w) wanted e = let same : w ≡ wanted = search rules in ap Some same
 
+-- a width that is there
 some_width : (o : Option ℕ) → is_some o ≡ true → (w : ℕ) × (o ≡ Some w)
 some_width None e = absurd (cc e)
 some_width (Some w) e = (w, refl)
@@ -50,6 +52,7 @@ abbrev pub StoresInto : Module → List ℕ → Stmt → Type 0
 StoresInto m name (stmt.Store other e) = (other ≡ name) × IsExpr m e (width_of m name)
 StoresInto m name (stmt.StoreIf condition other place e) = (other ≡ name) × IsExpr m condition 1 × ((w : ℕ) × IsExpr m place w) × IsExpr m e (width_of m name)
 
+-- what the rules say of a statement for a name
 stores_into : (m : Module) (name : List ℕ) (s : Stmt) → stored_name s ≡ name → stmt_uses (sort_of m) s ≡ true → stmt_fits (width_of m) s ≡ true → StoresInto m name s
 stores_into m name (stmt.Store other e) same uses fit = (
   same,
@@ -85,6 +88,7 @@ found_stmt m broken name s e =
 
 -- what is stored, name by name
 
+-- numbers that are the same name by name
 registers_are : (f : List ℕ → Option Term) (g : Option Term × ℕ → ℕ) (h : List ℕ × ℕ → ℕ) → ((name : List ℕ) (old : ℕ) → g (f name, old) ≡ h (name, old))
     → (names : List (List ℕ)) (numbers : List ℕ) → map g (zip (map f names) numbers) ≡ map h (zip names numbers)
 registers_are f g h same [] numbers = refl
@@ -107,10 +111,12 @@ put_later (Some (place, value) ∷ writes) at first memories =
     let after = put_word memories at place value in
     ap (λ (n : ℕ). put_words n writes (first ∷ after)) next ∙ put_later writes (at + 1) first after
 
+-- a write into the first memory
 put_first : (write : Option (ℕ × ℕ)) (writes : List (Option (ℕ × ℕ))) (first : List ℕ) (memories : List (List ℕ)) → put_words 0 (write ∷ writes) (first ∷ memories) ≡ put write first ∷ put_words 0 writes memories
 put_first None writes first memories = put_later writes 0 first memories
 put_first (Some (place, value)) writes first memories = put_later writes 0 (slice_set first place value) memories
 
+-- words that are the same name by name
 memories_are : (f : List ℕ → Option Write) (g : Option Write → Option (ℕ × ℕ)) (h : List ℕ × List ℕ → List ℕ) → ((name : List ℕ) (words : List ℕ) → put (g (f name)) words ≡ h (name, words))
     → (names : List (List ℕ)) (memories : List (List ℕ)) → length names ≡ length memories → put_words 0 (map g (map f names)) memories ≡ map h (zip names memories)
 memories_are f g h same [] [] count = refl
@@ -120,12 +126,14 @@ memories_are f g h same (name ∷ names) (words ∷ memories) count =
     let rest = memories_are f g h same names memories (omega (arith, count)) in
     put_first (g (f name)) (map g (map f names)) words memories ∙ (λ i. same name words i ∷ rest i)
 
+-- there are as many memories as names
 as_many : (m : Module) (lines : List (List ℕ × ℕ)) (memories : List (List ℕ)) → AreMemories m lines memories → length (map (λ (l : List ℕ × ℕ). l.0) lines) ≡ length memories
 as_many m [] [] are = refl
 as_many m [] (words ∷ memories) are = absurd are
 as_many m (l ∷ lines) [] are = absurd are
 as_many m (l ∷ lines) (words ∷ memories) are = ap suc (as_many m lines memories are.2)
 
+-- a write behind a test
 put_choice : (none : Bool) (words : List ℕ) (place value : ℕ) → put (cond none None (Some (place, value))) words ≡ cond none words (slice_set words place value)
 put_choice true words place value = refl
 put_choice false words place value = refl
@@ -136,6 +144,7 @@ AreRight m order kept value numbers =
     (e : Expr) (w : ℕ) → reads_declared (sort_of m) e ≡ true → expr_width (width_of m) e ≡ Some w → term_number numbers kept.memories (term_of m order e) ≡ number_of m kept value e
 
 module _ (m : Module) (order : List ℕ) (broken : first_broken m ≡ None) (kept : Kept) (value : Valuation) (numbers : List ℕ) (right : AreRight m order kept value numbers) where
+  -- what is stored into a register
   register_is : (name : List ℕ) (old : ℕ) → next_number kept.memories numbers (next_of m order (stmt_for m name), old) ≡ number_after m kept value (name, old)
   register_is name old = step (stmt_for m name) refl
     where
@@ -144,6 +153,7 @@ module _ (m : Module) (order : List ℕ) (broken : first_broken m ≡ None) (kep
       step (Some (stmt.Store other v)) e = let s = found_stmt m broken name (stmt.Store other v) e in rw e (right v (width_of m name) s.1.reads s.1.is_wide)
       step (Some (stmt.StoreIf condition other place v)) e = rw e refl
 
+  -- what is stored into a memory
   memory_is : (name : List ℕ) (words : List ℕ) → put (written kept.memories numbers (write_of m order (stmt_for m name))) words ≡ words_after m kept value (name, words)
   memory_is name words = step (stmt_for m name) refl
     where
@@ -160,6 +170,7 @@ module _ (m : Module) (order : List ℕ) (broken : first_broken m ≡ None) (kep
 
 -- what stays in its widths
 
+-- numbers fit as before where each new one fits
 numbers_stay : (h : List ℕ × ℕ → ℕ) (lines : List (List ℕ × ℕ)) (numbers : List ℕ) → ((l : List ℕ × ℕ) (old : ℕ) → IsLine lines l → old < 2 ^ l.1 → h (l.0, old) < 2 ^ l.1)
     → AreNumbers lines numbers → AreNumbers lines (map h (zip (map (λ (l : List ℕ × ℕ). l.0) lines) numbers))
 numbers_stay h [] [] each are = tt
@@ -171,6 +182,7 @@ numbers_stay h (l ∷ lines) (old ∷ numbers) each are = (each l old (inl refl)
 abbrev AreWords : Module → List ℕ × ℕ → List ℕ → Type 0
 AreWords m l words = (length words ≡ last_place (sort_of m l.0) + 1) × AllBelow (2 ^ l.1) words
 
+-- words fit as before where each memory's new ones do
 memories_stay : (m : Module) (h : List ℕ × List ℕ → List ℕ) (lines : List (List ℕ × ℕ)) (memories : List (List ℕ)) → ((l : List ℕ × ℕ) (words : List ℕ) → IsLine lines l → AreWords m l words → AreWords m l (h (l.0, words)))
     → AreMemories m lines memories → AreMemories m lines (map h (zip (map (λ (l : List ℕ × ℕ). l.0) lines) memories))
 memories_stay m h [] [] each are = tt
@@ -180,6 +192,7 @@ memories_stay m h (l ∷ lines) (words ∷ memories) each are =
     let new = each l words (inl refl) (are.0, are.1) in
     (new.0, new.1, memories_stay m h lines memories (λ other words here. each other words (inr here)) are.2)
 
+-- a write of a word that fits leaves words that fit
 words_stay : (m : Module) (l : List ℕ × ℕ) (none : Bool) (words : List ℕ) (place value : ℕ) → AreWords m l words → value < 2 ^ l.1 → AreWords m l (cond none words (slice_set words place value))
 words_stay m l true words place value are small = are
 words_stay m l false words place value are small = (length-set words place value ∙ are.0, set_below (2 ^ l.1) words place value are.1 small)
@@ -216,11 +229,13 @@ module _ (m : Module) (order : List ℕ) (broken : first_broken m ≡ None) (is 
       let below = line_holds (λ (l : List ℕ × ℕ). value l.0 < 2 ^ l.1) (lines_of is_readable m) l.0 solution.solves.within l.1 in
       subst (λ (n : List ℕ). value n < 2 ^ width_of m n) l.2 (subst (λ (w : ℕ). value l.0.0 < 2 ^ w) (sym (line_width m order broken is is_readable l.0 l.1)) below)
 
+  -- so the number of each expression fits its width
   number_small : (value : Valuation) → IsTheSolution m kept row value → (e : Expr) (w : ℕ) → IsExpr m e w → number_of m kept value e < 2 ^ w
   number_small value solution e w expr =
       (fits m kept value e w (narrow_widths m (rules_kept m broken).narrow) (words_within m order broken is kept of) expr.is_wide
       (λ name here. small value solution name (reads_readable (sort_of m) e expr.reads name here))).within
 
+  -- what an edge leaves in a register fits
   register_stays : (value : Valuation) → IsTheSolution m kept row value → (l : List ℕ × ℕ) (old : ℕ) → IsLine (lines_of is_reg m) l → old < 2 ^ l.1 → number_after m kept value (l.0, old) < 2 ^ l.1
   register_stays value solution l old here below = step (stmt_for m l.0) refl
     where
@@ -231,6 +246,7 @@ module _ (m : Module) (order : List ℕ) (broken : first_broken m ≡ None) (is 
           rw e (subst (λ (w : ℕ). number_of m kept value v < 2 ^ w) (line_width m order broken is is_reg l here) (number_small value solution v (width_of m l.0) s.1))
       step (Some (stmt.StoreIf condition other place v)) e = rw e below
 
+  -- what an edge leaves in a memory fits
   memory_stays : (value : Valuation) → IsTheSolution m kept row value → (l : List ℕ × ℕ) (words : List ℕ) → IsLine (lines_of is_memory m) l → AreWords m l words → AreWords m l (words_after m kept value (l.0, words))
   memory_stays value solution l words here are = step (stmt_for m l.0) refl
     where

@@ -9,3 +9,4 @@ mod SortLemmas
 mod SpotLemmas
 mod WordLemmas
 mod RowLemmas
+mod CompiledLemmas

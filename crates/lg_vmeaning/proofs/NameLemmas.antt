@@ -14,7 +14,7 @@ use Rattle.lg_vrules.specs.Rules.{is_among, all_differ}
 use Rattle.lg_vrules.proofs.NameLemmas.{not_true}
 use Rattle.lg_vmeaning.specs.InOrder.{IsIn, AllDiffer}
 
-abbrev Named : Type 0
+abbrev pub Named : Type 0
 Named = List ℕ × Thing
 
 abbrev pub found : List Named → List ℕ → Option Thing

@@ -21,7 +21,7 @@ read_outputs numbers machine = map (λ (place : ℕ). slice_index_or numbers pla
 module _ (m : Module) (order : List ℕ) (ins outs : List PortLine) (machine : Machine) (c : IsCompiled m order ins outs machine)
     (kept : Kept) (of : IsOf m kept) (row : List ℕ) (fits : AreNumbers (lines_of is_input m) row)
     (numbers : List ℕ) (computed : numbers ≡ run kept.memories (row ++ kept.numbers) machine.equations) where
-  value : Valuation
+  abbrev value : Valuation
   value = the_value m order kept row
 
   numbers_are : numbers ≡ the_numbers m order kept row

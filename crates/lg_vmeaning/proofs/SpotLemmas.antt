@@ -36,7 +36,7 @@ spot_is names name = spot_from 0 names name ∙ plus_none (spot names name)
 
 -- the first item of a name stands at the place of the name
 pub found_at : {A : Type 0} (f : A → List ℕ) (items : List A) (name : List ℕ) → option_and_then (slice_get items) (place_from 0 (map f items) name) ≡ find (λ (a : A). bytes_eq (f a) name) items
-found_at f items name = ap (option_and_then (slice_get items)) (spot_is (map f items) name) ∙ by items
+found_at {A = A} f items name = ap (option_and_then (slice_get items)) (spot_is (map f items) name) ∙ by items
   where
     later : {A : Type 0} (a : A) (items : List A) (o : Option ℕ) → option_and_then (slice_get (a ∷ items)) (option_map suc o) ≡ option_and_then (slice_get items) o
     later a items None = refl

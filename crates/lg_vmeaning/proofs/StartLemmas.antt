@@ -19,7 +19,7 @@ use Rattle.lg_verilog.specs.declared.module.Module.{Module}
 use Rattle.lg_vrules.specs.declared.names.Sort.{Sort}
 use Rattle.lg_vrules.specs.declared.names.Sort.TheVariants as sort
 use Rattle.lg_vrules.specs.declared.names.Thing.{Thing}
-use Rattle.lg_vrules.specs.Things.{range_width, port_sort, port_thing, decl_thing, things, names, sort_of, width_of, lines_of, is_reg, is_memory}
+use Rattle.lg_vrules.specs.Things.{range_width, port_sort, port_thing, decl_thing, things, names, sort_of, width_of, is_reg, is_memory}
 use Rattle.lg_vrules.specs.Rules.{is_among, all_differ, constant_fits, constant_of, last_place, decl_fits, fill_fits, word_fits, assign_fits, stmt_fits, fills_of, words_of, stmts_of, first_broken}
 use Rattle.lg_vrules.proofs.NameLemmas.{neither, flip, not_true}
 use Rattle.lg_vrules.proofs.RuleLemmas.{rules_kept}
@@ -51,6 +51,7 @@ set_below most [] place value all small = tt
 set_below most (word ∷ words) zero value all small = (small, all.1)
 set_below most (word ∷ words) (suc place) value all small = (all.0, set_below most words place value all.1 small)
 
+-- one word, again and again
 replicate_below : (most n value : ℕ) → value < most → AllBelow most (replicate n value)
 replicate_below most zero value small = tt
 replicate_below most (suc n) value small = (small, replicate_below most n value small)
@@ -63,6 +64,7 @@ pub record PartsFit (m : Module) : Type 0 where
   pub words : list_all (word_fits (sort_of m) (width_of m)) (words_of m) ≡ true
   pub stmts : list_all (stmt_fits (width_of m)) (stmts_of m) ≡ true
 
+-- a module in which no rule is broken keeps them
 pub parts_fit : (m : Module) → first_broken m ≡ None → PartsFit m
 parts_fit m broken =
     let of_decls = and_parts (list_all (decl_fits (width_of m)) m.decls) _ (rules_kept m broken).fitting in
@@ -100,6 +102,7 @@ all_found (t ∷ all) differ =
     let same : bytes_eq t.0 t.0 ≡ true = (bytes_eq-Decides t.0 t.0).1 refl in
     (rw same refl, found_behind t all all (not_true (is_among t.0 (firsts all)) parts.0) (all_found all parts.1))
 
+-- what is found of two lists is found of the second
 found_right : (all some more : List (List ℕ × Thing)) → AreFound all (some ++ more) → AreFound all more
 found_right all [] more stand = stand
 found_right all (t ∷ some) more stand = found_right all some more stand.1
@@ -113,12 +116,14 @@ no_port is no_clock no_input no_output input name = step (bytes_eq name (codes "
     step false = no_input
 no_port is no_clock no_input no_output output name = no_output
 
+-- the lines of such a sort come from what stands behind the ports
 no_ports : (is : Sort → Bool) → ((direction : Direction) (name : List ℕ) → is (port_sort direction name) ≡ false) → (ports : List Port) (more : List (List ℕ × Thing)) → lines_in is (map port_thing ports ++ more) ≡ lines_in is more
 no_ports is none [] more = refl
 no_ports is none (p ∷ ports) more = rw (none p.direction p.name) (no_ports is none ports more)
 
 -- registers
 
+-- the starts of registers fit their widths
 numbers_start : (m : Module) (decls : List Decl) → AreFound (things m) (map decl_thing decls) → list_all (decl_fits (width_of m)) decls ≡ true
     → AreNumbers (lines_in is_reg (map decl_thing decls)) (filter_map start_number decls)
 numbers_start m [] stand fit = tt
@@ -131,6 +136,7 @@ numbers_start m (decl.Reg range name value ∷ decls) stand fit =
 
 -- memories
 
+-- what fills a memory fits its width
 fill_below : (m : Module) (name : List ℕ) → list_all (fill_fits (width_of m)) (fills_of m) ≡ true → filled_with m name < 2 ^ width_of m name
 fill_below m name fit = step (find (λ (f : Fill). bytes_eq f.name name) (fills_of m)) refl
   where
@@ -140,6 +146,7 @@ fill_below m name fit = step (find (λ (f : Fill). bytes_eq f.name name) (fills_
         let passes = find_passes (λ (f : Fill). bytes_eq f.name name) (fill_fits (width_of m)) (fills_of m) f e fit in
         subst (λ (n : List ℕ). f.value.value < 2 ^ width_of m n) ((bytes_eq-Decides f.name name).0 passes.0) (value_fits (width_of m) f.name f.value passes.1)
 
+-- a line of the init leaves words that fit
 word_below : (most : ℕ) (name : List ℕ) (words : List ℕ) (w : Word) → AllBelow most words → (bytes_eq w.name name ≡ true → w.value.value < most) → AllBelow most (with_word name words w)
 word_below most name words w all small = step (bytes_eq w.name name) refl
   where
@@ -147,6 +154,7 @@ word_below most name words w all small = step (bytes_eq w.name name) refl
     step true e = set_below most words w.place w.value.value all (small e)
     step false e = all
 
+-- and so do all lines of the init
 words_below : (sort : List ℕ → Option Sort) (width : List ℕ → ℕ) (name : List ℕ) (lines : List Word) (words : List ℕ) → list_all (word_fits sort width) lines ≡ true
     → AllBelow (2 ^ width name) words → AllBelow (2 ^ width name) (fold (with_word name) words lines)
 words_below sort width name [] words fit all = all
@@ -157,6 +165,7 @@ words_below sort width name (w ∷ lines) words fit all =
     (word_below (2 ^ width name) name words w all
     (λ same. subst (λ (n : List ℕ). w.value.value < 2 ^ width n) ((bytes_eq-Decides w.name name).0 same) (value_fits width w.name w.value constant)))
 
+-- the lines of the init leave as many words as there were
 words_count : (name : List ℕ) (lines : List Word) (words : List ℕ) → length (fold (with_word name) words lines) ≡ length words
 words_count name [] words = refl
 words_count name (w ∷ lines) words = words_count name lines (with_word name words w) ∙ step (bytes_eq w.name name)
@@ -165,6 +174,7 @@ words_count name (w ∷ lines) words = words_count name lines (with_word name wo
     step true = length-set words w.place w.value.value
     step false = refl
 
+-- the words of memories at the start fit, and each place has one
 memories_start : (m : Module) (decls : List Decl) → AreFound (things m) (map decl_thing decls) → PartsFit m
     → AreMemories m (lines_in is_memory (map decl_thing decls)) (filter_map (start_memory m) decls)
 memories_start m [] stand fit = tt

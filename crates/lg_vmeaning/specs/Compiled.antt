@@ -54,12 +54,12 @@ machine_of m order = record {
 }
 
 -- a valid module with all that is made ready for its rows
-pub record IsCompiled (m : Module) (order : List ℕ) (inputs outputs : List PortLine) (machine : Machine) : Type 0 where
+pub record IsCompiled (m : Module) (places : List ℕ) (ins outs : List PortLine) (ready : Machine) : Type 0 where
   pub valid : IsValid m
-  pub order : IsOrder m order
-  pub inputs : inputs ≡ port_lines is_input m
-  pub outputs : outputs ≡ port_lines is_output m
-  pub machine : machine ≡ machine_of m order
+  pub order : IsOrder m places
+  pub inputs : ins ≡ port_lines is_input m
+  pub outputs : outs ≡ port_lines is_output m
+  pub machine : ready ≡ machine_of m places
 
 -- a row: its outputs, and what is kept after its edge
 pub record IsStep (m : Module) (kept : Kept) (row outputs : List ℕ) (after : Kept) : Type 0 where

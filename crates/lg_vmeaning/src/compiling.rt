@@ -56,7 +56,7 @@ pub fn machine_of(
         places: &stmt_places,
     };
     Ok(Machine {
-        equations: equations(alloc, resolver, assigns, order)?,
+        equations: equations(alloc, &resolver, assigns, order)?,
         outputs: places(alloc, &numbers, outputs)?,
         registers: stores.nexts(alloc, registers.as_slice())?,
         memories: stores.writes(alloc, memories.as_slice())?,
@@ -90,13 +90,13 @@ fn known_names<'a>(
 // The terms of what assigns give, in order.
 fn equations(
     alloc: Global,
-    resolver: Resolver,
+    resolver: &Resolver,
     assigns: &[Assign],
     order: &[usize],
 ) -> Result<Items<Term>, Memory>
     requires places { All (λ place. place < length assigns.now) order.now }
-    requires narrow { AreNarrow resolver.names.now }
-    ensures { IfOk result (λ terms. terms ≡ map (λ assign. term_by resolver assign.value) (filter_map (slice_get assigns.now) order.now)) }
+    requires narrow { AreNarrow resolver.now.names.now }
+    ensures { IfOk result (λ terms. terms ≡ map (λ assign. term_by resolver.now assign.value) (filter_map (slice_get assigns.now) order.now)) }
 {
     let mut terms = Items::new(alloc);
     for place in order {

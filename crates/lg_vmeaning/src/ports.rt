@@ -24,7 +24,7 @@ impl PortLine {
     fn holds(&self, number: u64) -> bool
         ensures { IsTrue result ↔ (number < 2 ^ self.now.width) }
     {
-        self.width >= 64 || number >> self.width == 0
+        self.width >= 64 || number < 1 << self.width
     }
 }
 
@@ -35,8 +35,8 @@ pub fn are_numbers(lines: &[PortLine], numbers: &[u64]) -> bool
     if lines.len() != numbers.len() {
         return false;
     }
-    for (line, number) in lines.iter().zip(numbers) {
-        if !line.holds(*number) {
+    for (at, line) in lines.iter().enumerate() {
+        if !line.holds(numbers[at]) {
             return false;
         }
     }

@@ -9,4 +9,4 @@ use Rattle.lg_vmeaning.proofs.valid_module.Valid.order.Goals as goal
 pub returns-clause-one_solution : goal.returns-clause-one_solution
 returns-clause-one_solution c = λ kept row.
     subst (λ (m : Module). IsOf m kept → AreNumbers (lines_of is_input m) row → (value : Valuation) × IsTheSolution m kept row value) c.self.view_is
-    (one_solution c.self.inside.«module» c.self.inside.order c.self.invariant.0.rules c.self.invariant.1 kept row)
+    (one_solution c.self.inside.«module» c.self.inside.order c.self.invariant.valid.rules c.self.invariant.order kept row)

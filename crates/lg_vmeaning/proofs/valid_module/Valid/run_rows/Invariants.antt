@@ -1,7 +1,7 @@
 use Rattle.std.proofs.Common.{ℕ, List, ◌++◌, drop}
 use Rattle.lg_vmeaning.specs.Solution.{IsOf}
 use Rattle.lg_vmeaning.specs.Rows.{start, AreRows}
-use Rattle.lg_vmeaning.proofs.rows.Valid.run_rows.Given as goal
+use Rattle.lg_vmeaning.proofs.valid_module.Valid.run_rows.Given as goal
 
 -- outputs of the rows that are left, from what is kept now, complete the outputs
 abbrev pub invariant-loop-row : goal.invariant-loop-row
