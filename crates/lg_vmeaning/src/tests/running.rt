@@ -12,7 +12,7 @@ type Case<'a> = (&'a str, &'a [&'a [u64]], &'a [&'a [u64]]);
 
 const TOP: u64 = u64::MAX;
 
-// A module whose output Z is an expression over the inputs A and B of 8 bits, in a width.
+// A sum that is cut.
 const ADDER: &str =
     "module c_(input wire [7:0] i_A, input wire [7:0] i_B, output wire [7:0] o_Z); assign o_Z = (i_A + i_B); endmodule";
 
@@ -128,5 +128,37 @@ fn rows_of_modules(rt: HostRuntime) -> Result<(), Fail> {
             assert_eq!(rt; out.as_slice(), *want, "{text}");
         }
     }
+    Ok(())
+}
+
+#[test]
+fn rows_one_call_at_a_time(rt: HostRuntime) -> Result<(), Fail> {
+    let alloc = rt.alloc();
+    let text =
+        "module c_(input wire clk, input wire [3:0] i_D, output wire [3:0] o_Q, output wire o_Z); reg [3:0] r_0 = 4'd9; assign o_Q = r_0; assign o_Z = (r_0 == i_D); always @(posedge clk) begin r_0 <= i_D; end endmodule";
+    let module = read_module(alloc, text.as_bytes()).ok().expect(&rt, text);
+    let module = valid(alloc, module).ok().expect(&rt, text);
+    let [input] = module.inputs() else {
+        return Err("one input".into());
+    };
+    let [stored, same] = module.outputs() else {
+        return Err("two outputs".into());
+    };
+    assert_eq!(rt; (input.name.as_str(), input.width), ("i_D", 4));
+    assert_eq!(rt; (stored.name.as_str(), stored.width), ("o_Q", 4));
+    assert_eq!(rt; (same.name.as_str(), same.width), ("o_Z", 1));
+    let wide = module.fits(&[16]);
+    let few = module.fits(&[]);
+    assert!(rt; !wide && !few);
+    let row = [3];
+    let fit = module.fits(&row);
+    assert!(rt; fit);
+    let mut regs = module.start(alloc).ok().ok_or("memory")?;
+    let before = module.eval(alloc, &regs, &row).ok().ok_or("memory")?;
+    assert_eq!(rt; before.as_slice(), [9, 0].as_slice());
+    let edge = module.edge(alloc, &mut regs, &row);
+    assert!(rt; edge.is_ok());
+    let after = module.eval(alloc, &regs, &row).ok().ok_or("memory")?;
+    assert_eq!(rt; after.as_slice(), [3, 1].as_slice());
     Ok(())
 }

@@ -32,7 +32,7 @@ returns c =
     subst (λ (some : List (List ℕ)). KnowsPlaces some c.in_ok-words.words) (ap texts c.as_slice-3.ensures.value ∙ c.in_ok-memories.ensures) c.in_ok-words.ensures in
     let places : KnowsPlaces (stored m) c.in_ok-stmt_places.stmt_places =
     subst (λ (some : List (List ℕ)). KnowsPlaces some c.in_ok-stmt_places.stmt_places)
-        (ap texts c.as_slice-4.ensures.value ∙ (c.in_ok-stored.ensures ∙ ap (λ (stmts : List Stmt). map stored_name stmts) c.stmts.ensures)) c.in_ok-stmt_places.ensures in
+    (ap texts c.as_slice-4.ensures.value ∙ (c.in_ok-stored.ensures ∙ ap (λ (stmts : List Stmt). map stored_name stmts) c.stmts.ensures)) c.in_ok-stmt_places.ensures in
     let knows : KnowsModule m order c.args.names.now c.in_ok-numbers.numbers c.in_ok-words.words = record { named = c.requires.names; numbers_known = numbers; memories_known = memories } in
     let equations = equations_are m order c.args.names.now c.in_ok-numbers.numbers c.in_ok-words.words knows c.as_slice-assigns.result.now c.in_ok-equations.field-0 c.in_ok-equations.ensures c.as_slice-assigns.ensures in
     let outputs = outputs_are m order c.in_ok-numbers.numbers c.args.outputs.now c.in_ok-places.field-0 c.in_ok-places.ensures c.requires.outputs numbers in
