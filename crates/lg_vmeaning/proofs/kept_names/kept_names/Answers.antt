@@ -1,4 +1,4 @@
-use Rattle.std.proofs.Common.{◌≡◌, List, map, take, length, sym, ap, ◌∙◌, arith}
+use Rattle.std.proofs.Common.{◌≡◌, List, length, map, take, sym, ap, ◌∙◌, arith}
 use Rattle.std.proofs.SliceLists.{take_long}
 use Rattle.lg_verilog.specs.declared.module.Decl.{Decl}
 use Rattle.lg_vrules.specs.Things.{decl_thing}
@@ -12,4 +12,5 @@ returns c =
     let m = c.args.«module».now in
     let all : take c.loop-decl.decl-index m.decls ≡ m.decls = take_long m.decls c.loop-decl.decl-index (omega (arith, ap length c.as_slice-decl-items.ensures, c.loop-decl-test.false)) in
     c.loop-decl.invariant
-    ∙ (ap (λ (some : List Decl). names_in (is_kept_as c.args.storage) (map decl_thing some)) all ∙ sym (ap (map first_of_line) (kept_lines c.args.storage m)))
+    ∙ (ap (λ (some : List Decl). names_in (is_kept_as c.args.storage) (map decl_thing some)) all
+    ∙ ap (map first_of_line) (sym (kept_lines c.args.storage m)))

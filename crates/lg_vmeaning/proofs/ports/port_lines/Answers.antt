@@ -1,10 +1,16 @@
-use Rattle.std.proofs.Common.{rules, ◌≡◌, ◌<◌, ◌^◌, ◌↔◌, true, map, IfOk, IsTrue, ℕ, ◌+◌, ◌-◌, ◌*◌, ◌≤◌, length, ◌/◌, ◌%◌, Bool, false, nat_eq, nat_lt, List, [], ◌∷◌, ◌++◌, slice_index_or, slice_set, bit_and, bit_or, Fits, w8, w32, w64, Bor, MutBor}
-use Rattle.lg_vrules.specs.Things.{range_width, port_thing}
-use Rattle.lg_vrules.specs.Rules.{are_narrow}
-use Rattle.lg_vmeaning.specs.Ports.{is_going, port_line, port_lines}
-use Rattle.lg_vmeaning.specs.Solution.{AreNumbers}
+use Rattle.std.proofs.Common.{◌≡◌, ◌≤◌, List, length, map, take, sym, ap, ◌∙◌, arith}
+use Rattle.std.proofs.SliceLists.{take_long}
+use Rattle.lg_verilog.specs.declared.module.Port.{Port}
+use Rattle.lg_vrules.specs.Things.{port_thing}
+use Rattle.lg_vmeaning.specs.Ports.{is_going, port_line}
+use Rattle.lg_vmeaning.proofs.NameLemmas.{lines_in}
+use Rattle.lg_vmeaning.proofs.SortLemmas.{going_lines}
 use Rattle.lg_vmeaning.proofs.ports.port_lines.Goals as goal
 
--- src/ports.rt:47:1
 pub returns : goal.returns
-returns c = ?
+returns c =
+    let m = c.args.«module».now in
+    let all : take c.loop-port.port-index m.ports ≡ m.ports = take_long m.ports c.loop-port.port-index (omega (arith, ap length c.as_slice-port-items.ensures, c.loop-port-test.false)) in
+    c.loop-port.invariant
+    ∙ (ap (λ (some : List Port). map port_line (lines_in (is_going c.args.direction) (map port_thing some))) all
+    ∙ ap (map port_line) (sym (going_lines c.args.direction m)))
