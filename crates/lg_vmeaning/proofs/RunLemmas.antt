@@ -42,7 +42,8 @@ use Rattle.lg_vmeaning.proofs.ValidLemmas.{in_left, in_right, differ_both, at_pl
 
 -- names that differ
 
-all_differ_is : (names : List (List ℕ)) → AllDiffer names → all_differ names ≡ true
+-- names of which none stands twice pass the test
+pub all_differ_is : (names : List (List ℕ)) → AllDiffer names → all_differ names ≡ true
 all_differ_is [] differ = refl
 all_differ_is (name ∷ names) differ = both (fresh (is_among name names) refl) (all_differ_is names differ.1)
   where

@@ -11,7 +11,7 @@ use Rattle.lg_verilog.specs.declared.module.Decl.TheVariants as decl
 use Rattle.lg_verilog.specs.declared.module.Module.{Module}
 use Rattle.lg_vrules.specs.declared.names.Sort.{Sort}
 use Rattle.lg_vrules.specs.declared.names.Sort.TheVariants as sort
-use Rattle.lg_vrules.specs.Things.{range_width, port_sort, port_thing, decl_thing, lines_of, names_of}
+use Rattle.lg_vrules.specs.Things.{range_width, port_sort, port_thing, decl_thing, lines_of}
 use Rattle.lg_vmeaning.specs.declared.kept_names.Storage.{Storage}
 use Rattle.lg_vmeaning.specs.declared.kept_names.Storage.TheVariants as storage
 use Rattle.lg_vmeaning.specs.Ports.{is_going, is_kept_as}

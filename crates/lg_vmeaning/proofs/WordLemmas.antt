@@ -1,8 +1,12 @@
--- Memories at the start: words that are put one after another, each into the memory of its name.
-use Rattle.std.proofs.Common.{◌≡◌, ℕ, suc, ◌+◌, Bool, true, false, cond, ◌&&◌, List, [], ◌∷◌, map, fold, Option, Some, None, refl, sym, ap, subst, ◌∙◌}
-use Rattle.std.specs.Prelude.{not, option_map, option_and_then, unwrap_or, filter_map, replicate, slice_get, slice_set}
+-- Registers and memories at the start: what is drawn from the declarations, and words that are put one after another, each into the memory of its name.
+use Rattle.std.proofs.Common.{◌≡◌, ℕ, suc, ◌+◌, ◌<◌, ◌≤◌, nat_le, Bool, true, false, cond, ◌&&◌, List, [], ◌∷◌, ◌++◌, length, map, fold, take, get_or, Option, Some, None, refl, sym, ap, subst, ◌∙◌, append-nil, arith, rules}
+use Rattle.std.specs.Prelude.{not, sum_by, option_map, option_and_then, unwrap_or, filter_map, replicate, slice_get, slice_set}
+use Rattle.std.specs.List.{list_all}
 use Rattle.std.specs.Str.{bytes_eq}
 use Rattle.std.proofs.lemmas.Bool.{and_parts, false≢true}
+use Rattle.std.proofs.lemmas.List.{take_more}
+use Rattle.std.proofs.lemmas.List.Elements.{filter_map-append}
+use Rattle.std.proofs.lemmas.List.Sums.{get_or-le-sum_by}
 use Rattle.std.proofs.lemmas.Slice.Eq.{bytes_eq-Decides}
 use Rattle.lg_verilog.specs.declared.module.Decl.{Decl}
 use Rattle.lg_verilog.specs.declared.module.Decl.TheVariants as decl
@@ -10,15 +14,17 @@ use Rattle.lg_verilog.specs.declared.module.Fill.{Fill}
 use Rattle.lg_verilog.specs.declared.module.Word.{Word}
 use Rattle.lg_verilog.specs.declared.module.Module.{Module}
 use Rattle.lg_vrules.specs.declared.places.Places.{Places}
-use Rattle.lg_vrules.specs.Rules.{is_among, all_differ, words_of, fills_of, filled}
-use Rattle.lg_vrules.specs.Things.{decl_thing, names_of, is_memory}
-use Rattle.lg_vrules.specs.Places.{place_under, place_from, KnowsPlaces}
+use Rattle.lg_vrules.specs.Rules.{is_among, all_differ, words_of, fills_of, filled, decl_words, decl_is_whole, are_stored_once, are_filled_once, first_broken}
+use Rattle.lg_vrules.specs.Things.{decl_thing, things, names, names_of, sort_of, is_memory}
+use Rattle.lg_vrules.specs.Places.{place_under, KnowsPlaces}
 use Rattle.lg_vrules.proofs.NameLemmas.{not_true}
+use Rattle.lg_vrules.proofs.RuleLemmas.{rules_kept}
 use Rattle.lg_vmachine.specs.Machine.{put_word}
 use Rattle.lg_vmeaning.specs.declared.kept_names.Storage.TheVariants as storage
 use Rattle.lg_vmeaning.specs.Rows.{filled_with, with_word, start_memory}
 use Rattle.lg_vmeaning.specs.Starting.{filled_memory, filled_by, with_word_by}
-use Rattle.lg_vmeaning.proofs.NameLemmas.{names_in}
+use Rattle.lg_vmeaning.proofs.NameLemmas.{names_in, differ_in}
+use Rattle.lg_vmeaning.proofs.RunLemmas.{all_differ_is}
 use Rattle.lg_vmeaning.proofs.SortLemmas.{kept_lines, first_of_line}
 use Rattle.lg_vmeaning.proofs.SpotLemmas.{spot, spot_is, same_names, found_at}
 
@@ -154,3 +160,39 @@ pub filled_is : (m : Module) (places : Places) (name : List ℕ) → KnowsPlaces
 filled_is m places name knows =
     ap (λ (o : Option Fill). unwrap_or (option_map (λ (f : Fill). f.value.value) o) 0)
     (ap (λ (o : Option ℕ). option_and_then (slice_get (fills_of m)) o) (knows.known name) ∙ found_at (λ (f : Fill). f.name) (fills_of m) name)
+
+-- what the rules say of memories
+
+-- no two memories have one name
+pub memories_differ : (m : Module) → first_broken m ≡ None → all_differ (names_of is_memory m) ≡ true
+memories_differ m broken =
+    let differ : all_differ (names m) ≡ true = (and_parts (all_differ (names m)) _ (rules_kept m broken).named).0 in
+    all_differ_is (names_of is_memory m) (differ_in is_memory (things m) differ)
+
+-- no two fills have one name
+pub fills_differ : (m : Module) → first_broken m ≡ None → all_differ (filled m) ≡ true
+fills_differ m broken = (and_parts (all_differ (filled m)) _ (and_parts (are_stored_once (sort_of m) m) (are_filled_once (sort_of m) m) (rules_kept m broken).kept_once).1).0
+
+-- a memory among the declarations has at most 1,048,576 words
+pub words_few : (m : Module) (decls : List Decl) (i : ℕ) (d : Decl) {range : Option ℕ} {name : List ℕ} {last : ℕ} → first_broken m ≡ None → decls ≡ m.decls → i < length decls → d ≡ get_or decls i d
+    → d ≡ decl.Memory range name last → last < 1048576
+words_few m decls i d {last = last} broken same lt here is =
+    let all = list_all decl_is_whole m.decls in
+    let most = nat_le (sum_by decl_words m.decls) 1048576 in
+    let sizes = and_parts all most (and_parts (all && most) _ (rules_kept m broken).indexed).0 in
+    let sum : sum_by decl_words m.decls ≤ 1048576 = (let test = sizes.1 in search rules) in
+    let item : decl_words (get_or decls i d) ≤ sum_by decl_words decls = get_or-le-sum_by decl_words decls i d lt in
+    let words : decl_words (get_or decls i d) ≡ last + 1 = ap decl_words (sym here ∙ is) in
+    omega (arith, sum, item, words, ap (sum_by decl_words) same)
+
+-- from some items and one more is drawn what is drawn from them, and then what is drawn from the one
+drawn_next : {A B : Type 0} (f : A → Option B) (items : List A) (i : ℕ) (a : A) → i < length items → a ≡ get_or items i a → filter_map f (take (i + 1) items) ≡ filter_map f (take i items) ++ filter_map f (a ∷ [])
+drawn_next f items i a lt here = ap (filter_map f) (take_more items i a lt ∙ ap (λ x. take i items ++ x ∷ []) (sym here)) ∙ filter_map-append f (take i items) (a ∷ [])
+
+-- what is drawn from some items, and from one item more
+pub drawn_more : {A B : Type 0} (f : A → Option B) (items : List A) (i : ℕ) (a : A) (b : B) → i < length items → a ≡ get_or items i a → f a ≡ Some b → filter_map f (take (i + 1) items) ≡ filter_map f (take i items) ++ b ∷ []
+drawn_more f items i a b lt here e = drawn_next f items i a lt here ∙ ap (λ more. filter_map f (take i items) ++ more) (rw e refl)
+
+-- an item from which nothing is drawn adds nothing
+pub drawn_same : {A B : Type 0} (f : A → Option B) (items : List A) (i : ℕ) (a : A) → i < length items → a ≡ get_or items i a → f a ≡ None → filter_map f (take (i + 1) items) ≡ filter_map f (take i items)
+drawn_same f items i a lt here e = drawn_next f items i a lt here ∙ (ap (λ more. filter_map f (take i items) ++ more) (rw e refl) ∙ append-nil (filter_map f (take i items)))
