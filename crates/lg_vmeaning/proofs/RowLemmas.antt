@@ -1,6 +1,7 @@
 -- What a compiled module computes for a row is what the module means.
-use Rattle.std.proofs.Common.{◌≡◌, ℕ, ◌<◌, ◌^◌, List, ◌∷◌, ◌++◌, map, slice_index_or, sym, ap, subst, ◌∙◌}
+use Rattle.std.proofs.Common.{◌≡◌, ℕ, ◌+◌, ◌<◌, ◌≤◌, ◌^◌, List, [], ◌∷◌, ◌++◌, length, map, get_or, drop, slice_index_or, append_assoc, append-nil, sym, ap, subst, ◌∙◌}
 use Rattle.std.specs.Prelude.{All}
+use Rattle.std.proofs.lemmas.List.{drop_more, drop_all}
 use Rattle.lg_verilog.specs.declared.module.Module.{Module}
 use Rattle.lg_vrules.specs.Things.{lines_of, names_of, is_input, is_output}
 use Rattle.lg_vmachine.specs.Kept.{Kept}
@@ -9,7 +10,7 @@ use Rattle.lg_vmachine.specs.Machine.{run, stored_by}
 use Rattle.lg_vmachine.specs.declared.machine.Machine.{Machine}
 use Rattle.lg_vmeaning.specs.declared.ports.PortLine.{PortLine}
 use Rattle.lg_vmeaning.specs.Solution.{AreNumbers, IsOf, IsTheSolution, HasOutputs}
-use Rattle.lg_vmeaning.specs.Rows.{after_edge, IsAfterEdge, AreRows}
+use Rattle.lg_vmeaning.specs.Rows.{start, after_edge, IsAfterEdge, AreRows}
 use Rattle.lg_vmeaning.specs.Compiled.{machine_of, IsCompiled, IsStep}
 use Rattle.lg_vmeaning.proofs.RunLemmas.{the_value, the_numbers, is_the_solution, term_is, run_is, outputs_are as machine_outputs_are, outputs_small as machine_outputs_small}
 use Rattle.lg_vmeaning.proofs.EdgeLemmas.{after_is_of, stored_is}
@@ -61,3 +62,20 @@ module _ (m : Module) (order : List ℕ) (ins outs : List PortLine) (machine : M
 -- a row, and then the rows after it
 pub row_first : (m : Module) (kept after : Kept) (row outputs : List ℕ) (rows more : List (List ℕ)) → IsStep m kept row outputs after → AreRows m after rows more → AreRows m kept (row ∷ rows) (outputs ∷ more)
 row_first m kept after row outputs rows more s rest = (s.value, s.solution, s.gives, subst (λ (k : Kept). AreRows m k rows more) s.stored rest)
+
+-- outputs of the rows that are left complete these outputs
+abbrev pub Completes : Module → List (List ℕ) → ℕ → Kept → List (List ℕ) → Type 0
+Completes m rows at kept outs = (more : List (List ℕ)) → AreRows m kept (drop at rows) more → AreRows m (start m) rows (outs ++ more)
+
+-- they still do after one row more
+pub one_row_more : (m : Module) (rows : List (List ℕ)) (at : ℕ) (kept after : Kept) (row default outputs : List ℕ) (outs : List (List ℕ)) → at < length rows → row ≡ get_or rows at default → IsStep m kept row outputs after
+    → Completes m rows at kept outs → Completes m rows (at + 1) after (outs ++ outputs ∷ [])
+one_row_more m rows at kept after row default outputs outs inside is s completes = λ more rest.
+    let left : drop at rows ≡ row ∷ drop (at + 1) rows = drop_more rows at default inside ∙ ap (λ (one : List ℕ). one ∷ drop (at + 1) rows) (sym is) in
+    let all = completes (outputs ∷ more) (subst (λ (some : List (List ℕ)). AreRows m kept some (outputs ∷ more)) (sym left) (row_first m kept after row outputs (drop (at + 1) rows) more s rest)) in
+    subst (λ (some : List (List ℕ)). AreRows m (start m) rows some) (sym (append_assoc outs (outputs ∷ []) more)) all
+
+-- where no row is left they are complete
+pub no_row_left : (m : Module) (rows : List (List ℕ)) (at : ℕ) (kept : Kept) (outs : List (List ℕ)) → length rows ≤ at → Completes m rows at kept outs → AreRows m (start m) rows outs
+no_row_left m rows at kept outs end completes =
+    subst (λ (some : List (List ℕ)). AreRows m (start m) rows some) (append-nil outs) (completes [] (subst (λ (some : List (List ℕ)). AreRows m kept some []) (sym (drop_all at rows end)) tt))
