@@ -11,7 +11,7 @@ use Rattle.lg_vmachine.specs.declared.machine.Machine.{Machine}
 use Rattle.lg_vmeaning.specs.declared.ports.PortLine.{PortLine}
 use Rattle.lg_vmeaning.specs.Solution.{AreNumbers, IsOf, IsTheSolution, HasOutputs}
 use Rattle.lg_vmeaning.specs.Rows.{start, after_edge, IsAfterEdge, AreRows}
-use Rattle.lg_vmeaning.specs.Compiled.{machine_of, IsCompiled, IsStep}
+use Rattle.lg_vmeaning.specs.Compiled.{IsCompiled, IsStep}
 use Rattle.lg_vmeaning.proofs.RunLemmas.{the_value, the_numbers, is_the_solution, term_is, run_is, outputs_are as machine_outputs_are, outputs_small as machine_outputs_small}
 use Rattle.lg_vmeaning.proofs.EdgeLemmas.{after_is_of, stored_is}
 
