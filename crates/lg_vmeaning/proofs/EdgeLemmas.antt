@@ -1,7 +1,7 @@
 -- What an edge stores: registers and memories stay of their module, and the machine stores what the module does.
-use Rattle.std.proofs.Common.{◌≡◌, ℕ, suc, ◌+◌, ◌<◌, ◌^◌, nat_eq, Bool, true, false, cond, ◌&&◌, List, [], ◌∷◌, length, map, Option, Some, None, refl, sym, ap, subst, ◌∙◌, arith, rules, inl, inr}
+use Rattle.std.proofs.Common.{◌≡◌, ℕ, suc, ◌+◌, ◌<◌, ◌^◌, nat_eq, Bool, true, false, cond, ◌&&◌, List, [], ◌∷◌, length, map, Option, Some, None, refl, ap, subst, ◌∙◌, arith, rules, inl, inr}
 use Rattle.std.specs.Prelude.{option_map, unwrap_or, is_some, zip, slice_set}
-use Rattle.std.specs.List.{AllByRecursion, list_all}
+use Rattle.std.specs.List.{list_all}
 use Rattle.std.specs.Str.{bytes_eq}
 use Rattle.std.proofs.lemmas.Bool.{and_parts}
 use Rattle.std.proofs.lemmas.List.{length-set}
@@ -10,7 +10,7 @@ use Rattle.lg_verilog.specs.declared.expr.Expr.{Expr}
 use Rattle.lg_verilog.specs.declared.module.Stmt.{Stmt}
 use Rattle.lg_verilog.specs.declared.module.Stmt.TheVariants as stmt
 use Rattle.lg_verilog.specs.declared.module.Module.{Module}
-use Rattle.lg_vrules.specs.Things.{things, sort_of, width_of, lines_of, names_of, is_input, is_reg, is_memory, is_readable}
+use Rattle.lg_vrules.specs.Things.{sort_of, width_of, lines_of, names_of, is_input, is_reg, is_memory}
 use Rattle.lg_vrules.specs.Order.{IsOrder}
 use Rattle.lg_vrules.specs.Rules.{is_of, is_no_clock, assign_uses, stmt_uses, reads_declared, expr_width, is_width, stmt_fits, last_place, stmts_of, stored_name, first_broken}
 use Rattle.lg_vrules.proofs.IndexLemmas.{narrow_widths}
@@ -26,9 +26,9 @@ use Rattle.lg_vmachine.proofs.ReadLemmas.{reads_readable}
 use Rattle.lg_vmeaning.specs.Compiled.{term_of, next_of, write_of, machine_of}
 use Rattle.lg_vmeaning.specs.Rows.{stmt_for, number_after, words_after, after_edge}
 use Rattle.lg_vmeaning.specs.Solution.{AreNumbers, AreMemories, IsOf, IsTheSolution}
-use Rattle.lg_vmeaning.proofs.NameLemmas.{IsLine, named_line, found_in}
+use Rattle.lg_vmeaning.proofs.NameLemmas.{IsLine}
 use Rattle.lg_vmeaning.proofs.StartLemmas.{find_passes, AllBelow, set_below, parts_fit}
-use Rattle.lg_vmeaning.proofs.ValidLemmas.{found_of, line_width, words_within}
+use Rattle.lg_vmeaning.proofs.ValidLemmas.{line_width, words_within, within_at}
 
 -- statements
 
@@ -197,12 +197,6 @@ words_stay : (m : Module) (l : List ℕ × ℕ) (none : Bool) (words : List ℕ)
 words_stay m l true words place value are small = are
 words_stay m l false words place value are small = (length-set words place value ∙ are.0, set_below (2 ^ l.1) words place value are.1 small)
 
--- what holds of all lines holds of one
-line_holds : (P : List ℕ × ℕ → Type 0) (lines : List (List ℕ × ℕ)) (l : List ℕ × ℕ) → AllByRecursion P lines → IsLine lines l → P l
-line_holds P [] l all here = absurd here
-line_holds P (other ∷ lines) l all (inl e) = subst P (sym e) all.0
-line_holds P (other ∷ lines) l all (inr here) = line_holds P lines l all.1 here
-
 module _ (m : Module) (order : List ℕ) (broken : first_broken m ≡ None) (is : IsOrder m order) (kept : Kept) (of : IsOf m kept) (row : List ℕ) (inputs : AreNumbers (lines_of is_input m) row) where
   -- where each expression is computed right, the machine stores at an edge what the module does
   pub stored_is : (value : Valuation) (numbers : List ℕ) → AreRight m order kept value numbers → stored_by (machine_of m order) numbers kept ≡ after_edge m kept value
@@ -221,19 +215,11 @@ module _ (m : Module) (order : List ℕ) (broken : first_broken m ≡ None) (is 
           memories_are (λ (name : List ℕ). write_of m order (stmt_for m name)) (written kept.memories numbers) (words_after m kept value)
           (memory_is m order broken kept value numbers right) (names_of is_memory m) kept.memories (as_many m (lines_of is_memory m) kept.memories of.memories)
 
-  -- a solution gives each readable name a number that its width can hold
-  small : (value : Valuation) → IsTheSolution m kept row value → (name : List ℕ) → is_of is_readable (sort_of m) name ≡ true → value name < 2 ^ width_of m name
-  small value solution name readable =
-      let t = found_of m order broken is is_readable name readable in
-      let l = named_line is_readable (things m) name (found_in is_readable (things m) name t.0 t.1 t.2) in
-      let below = line_holds (λ (l : List ℕ × ℕ). value l.0 < 2 ^ l.1) (lines_of is_readable m) l.0 solution.solves.within l.1 in
-      subst (λ (n : List ℕ). value n < 2 ^ width_of m n) l.2 (subst (λ (w : ℕ). value l.0.0 < 2 ^ w) (sym (line_width m order broken is is_readable l.0 l.1)) below)
-
-  -- so the number of each expression fits its width
+  -- in a solution the number of each expression fits its width
   number_small : (value : Valuation) → IsTheSolution m kept row value → (e : Expr) (w : ℕ) → IsExpr m e w → number_of m kept value e < 2 ^ w
   number_small value solution e w expr =
       (fits m kept value e w (narrow_widths m (rules_kept m broken).narrow) (words_within m order broken is kept of) expr.is_wide
-      (λ name here. small value solution name (reads_readable (sort_of m) e expr.reads name here))).within
+      (λ name here. within_at m order broken is value solution.solves.within name (reads_readable (sort_of m) e expr.reads name here))).within
 
   -- what an edge leaves in a register fits
   register_stays : (value : Valuation) → IsTheSolution m kept row value → (l : List ℕ × ℕ) (old : ℕ) → IsLine (lines_of is_reg m) l → old < 2 ^ l.1 → number_after m kept value (l.0, old) < 2 ^ l.1

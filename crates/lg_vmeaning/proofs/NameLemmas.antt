@@ -1,5 +1,5 @@
 -- The names of things that differ, sort by sort.
-use Rattle.std.proofs.Common.{◌≡◌, ℕ, Bool, true, false, cond, ◌&&◌, ◌||◌, List, [], ◌∷◌, map, Option, Some, None, refl, sym, ap, subst, ◌∙◌, inl, inr, ◌⊎◌}
+use Rattle.std.proofs.Common.{◌≡◌, ℕ, Bool, true, false, cond, ◌||◌, List, [], ◌∷◌, map, Option, Some, refl, sym, ap, subst, ◌∙◌, inl, inr, ◌⊎◌}
 use Rattle.std.specs.Prelude.{not, option_map, unwrap_or, filter}
 use Rattle.std.specs.List.{AllByRecursion, list_all}
 use Rattle.std.specs.Map.{lookup}
@@ -37,6 +37,11 @@ IsLine (other ∷ more) l = (l ≡ other) ⊎ IsLine more l
 pub at_lines : (P : List ℕ × ℕ → Type 0) (lines : List (List ℕ × ℕ)) → ((l : List ℕ × ℕ) → IsLine lines l → P l) → AllByRecursion P lines
 at_lines P [] each = tt
 at_lines P (l ∷ lines) each = (each l (inl refl), at_lines P lines (λ other here. each other (inr here)))
+
+pub at_line : (P : List ℕ × ℕ → Type 0) (lines : List (List ℕ × ℕ)) (l : List ℕ × ℕ) → AllByRecursion P lines → IsLine lines l → P l
+at_line P [] l all here = absurd here
+at_line P (other ∷ lines) l all (inl e) = subst P (sym e) all.0
+at_line P (other ∷ lines) l all (inr here) = at_line P lines l all.1 here
 
 pub line_name : (lines : List (List ℕ × ℕ)) (l : List ℕ × ℕ) → IsLine lines l → IsIn (map (λ (l : List ℕ × ℕ). l.0) lines) l.0
 line_name [] l here = absurd here

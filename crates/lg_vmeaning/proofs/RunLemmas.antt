@@ -3,7 +3,7 @@ use Rattle.std.proofs.Common.{◌≡◌, ℕ, zero, suc, ◌+◌, ◌<◌, ◌�
 use Rattle.std.specs.Prelude.{not, option_map, option_and_then, unwrap_or, slice_get, slice_index, Contains, All}
 use Rattle.std.specs.List.{AllByRecursion, list_all}
 use Rattle.std.specs.Str.{bytes_eq}
-use Rattle.std.proofs.lemmas.Bool.{and_parts, false≢true}
+use Rattle.std.proofs.lemmas.Bool.{false≢true}
 use Rattle.std.proofs.lemmas.List.{map-append}
 use Rattle.std.proofs.lemmas.List.Elements.{All-from_recursion}
 use Rattle.std.proofs.lemmas.List.Folds.{list_all-append, list_all-map}
@@ -19,7 +19,7 @@ use Rattle.lg_vrules.specs.Things.{range_width, things, port_thing, decl_thing, 
 use Rattle.lg_vrules.specs.Depends.{names_read}
 use Rattle.lg_vrules.specs.Order.{IsOrder}
 use Rattle.lg_vrules.specs.Places.{place_from}
-use Rattle.lg_vrules.specs.Rules.{is_among, all_differ, is_of, reads_declared, expr_width, most_bits, is_narrow, stored, are_stored_once, are_filled_once, first_broken}
+use Rattle.lg_vrules.specs.Rules.{is_among, all_differ, is_of, reads_declared, expr_width, most_bits, is_narrow, first_broken}
 use Rattle.lg_vrules.proofs.GraphLemmas.{names, place_tells}
 use Rattle.lg_vrules.proofs.IndexLemmas.{narrow_widths}
 use Rattle.lg_vrules.proofs.NameLemmas.{both}
@@ -36,9 +36,9 @@ use Rattle.lg_vmeaning.specs.Solution.{AreNumbers, IsOf, IsTheSolution}
 use Rattle.lg_vmeaning.specs.InOrder.{IsIn, AllDiffer, sources, ordered}
 use Rattle.lg_vmeaning.specs.Compiled.{known, term_of, machine_of}
 use Rattle.lg_vmeaning.proofs.InOrderLemmas.{solved, given_by, TheSolution-ordered}
-use Rattle.lg_vmeaning.proofs.NameLemmas.{IsLine, in_among, named_line, found_in, found_passes, differ_in}
+use Rattle.lg_vmeaning.proofs.NameLemmas.{in_among, found_in, found_passes}
 use Rattle.lg_vmeaning.proofs.OrderLemmas.{At, IsEarlier}
-use Rattle.lg_vmeaning.proofs.ValidLemmas.{in_left, in_right, differ_both, at_place, kept_rules, names_differ, of_found, found_of, found_name, to_module, declared_at, keeps, given, line_width, words_within, sources_apart, are_ordered}
+use Rattle.lg_vmeaning.proofs.ValidLemmas.{in_left, in_right, differ_both, at_place, kept_rules, of_found, found_of, found_name, to_module, declared_at, keeps, given, words_within, within_at, sources_apart, are_ordered}
 
 -- names that differ
 
@@ -135,13 +135,6 @@ at_places : (P : ℕ → Type 0) (place : List ℕ → ℕ) (names : List (List 
 at_places P place [] each = tt
 at_places P place (name ∷ names) each = (each name (inl refl), at_places P place names (λ other here. each other (inr here)))
 
--- lines
-
-at_line : (P : List ℕ × ℕ → Type 0) (lines : List (List ℕ × ℕ)) (l : List ℕ × ℕ) → AllByRecursion P lines → IsLine lines l → P l
-at_line P [] l all here = absurd here
-at_line P (other ∷ lines) l all (inl e) = subst P (sym e) all.0
-at_line P (other ∷ lines) l all (inr here) = at_line P lines l all.1 here
-
 at_assign : (P : Assign → Type 0) (assigns : List Assign) (i : ℕ) (a : Assign) → AllByRecursion P assigns → At assigns i a → P a
 at_assign P assigns i a all at = subst P (get_or_from_slice_get assigns i a a at) (All-from_recursion P assigns all i a (slice_get_within assigns i a at))
 
@@ -183,13 +176,6 @@ module _ (m : Module) (order : List ℕ) (broken : first_broken m ≡ None) (is 
       (differ_both (sources m) (names (ordered m order)) (sources_apart m order broken is) (differ_by_place (ordered m order) k.differ)
       (λ name source there. let a = at_place (ordered m order) name there in k.fresh a.0 a.1 a.2 (subst (IsIn (sources m)) (sym a.3) source)))
 
-  pub memories_differ : all_differ (names_of is_memory m) ≡ true
-  memories_differ = all_differ_is (names_of is_memory m) (differ_in is_memory (things m) (names_differ m order broken is))
-
-  -- no register and no memory is stored into twice
-  pub stored_differ : all_differ (stored m) ≡ true
-  stored_differ = (and_parts (all_differ (stored m)) _ (and_parts (are_stored_once (sort_of m) m) (are_filled_once (sort_of m) m) (kept_rules m order broken is).kept_once).0).0
-
   -- a name that an expression may read is known
   is_known : (name : List ℕ) → is_of is_readable (sort_of m) name ≡ true → IsIn (known m order) name
   is_known name readable = elim (given m order broken is name readable) [
@@ -226,12 +212,7 @@ module _ (m : Module) (order : List ℕ) (broken : first_broken m ≡ None) (is 
     is_the_solution = TheSolution-ordered m kept row (ordered m order) (are_ordered m order broken is kept of) inputs of.numbers
 
     value_within : (name : List ℕ) → is_of is_readable (sort_of m) name ≡ true → the_value m order kept row name < 2 ^ width_of m name
-    value_within name readable =
-        let value = the_value m order kept row in
-        let f = found_of m order broken is is_readable name readable in
-        let l = named_line is_readable (things m) name (found_in is_readable (things m) name f.0 f.1 f.2) in
-        let small = at_line (λ (l : List ℕ × ℕ). value l.0 < 2 ^ l.1) (lines_of is_readable m) l.0 is_the_solution.solves.within l.1 in
-        subst (λ (other : List ℕ). value other < 2 ^ width_of m other) l.2 (subst (λ (w : ℕ). value l.0.0 < 2 ^ w) (sym (line_width m order broken is is_readable l.0 l.1)) small)
+    value_within name readable = within_at m order broken is (the_value m order kept row) is_the_solution.solves.within name readable
 
     -- where what an expression reads stands at its place, its term has its number
     term_over : (numbers : List ℕ) (e : Expr) (w : ℕ) → reads_declared (sort_of m) e ≡ true → expr_width (width_of m) e ≡ Some w

@@ -1,15 +1,10 @@
 -- The assigns of a valid module, taken in an order of their places, are equations in order.
-use Rattle.std.proofs.Common.{◌≡◌, ℕ, zero, suc, ◌+◌, ◌<◌, ◌≤◌, ◌^◌, nat_eq, Bool, true, false, cond, ◌&&◌, ◌||◌, List, [], ◌∷◌, ◌++◌, length, map, get_or, Option, Some, None, refl, sym, ap, subst, ◌∙◌, arith, rules, inl, inr, ◌⊎◌}
+use Rattle.std.proofs.Common.{◌≡◌, ℕ, zero, suc, ◌<◌, ◌^◌, nat_eq, Bool, true, false, cond, ◌&&◌, ◌||◌, List, [], ◌∷◌, ◌++◌, length, map, Option, Some, None, refl, sym, ap, subst, ◌∙◌, arith, rules, inl, inr, ◌⊎◌}
 use Rattle.std.specs.Prelude.{not, option_map, option_and_then, unwrap_or, slice_get, slice_index, filter_map, Contains, ◌↔◌, is_some}
 use Rattle.std.specs.List.{AllByRecursion, list_all}
 use Rattle.std.proofs.lemmas.Bool.{and_parts, false≢true}
-use Rattle.std.proofs.lemmas.Option.{same_Some, slice_get_within, slice_get-get_or, get_or_from_slice_get, slice_get-map}
-use Rattle.lg_verilog.specs.declared.expr.Expr.{Expr}
+use Rattle.std.proofs.lemmas.Option.{same_Some, slice_get_within, slice_get-get_or, get_or_from_slice_get}
 use Rattle.lg_verilog.specs.declared.module.Assign.{Assign}
-use Rattle.lg_verilog.specs.declared.module.Decl.{Decl}
-use Rattle.lg_verilog.specs.declared.module.Stmt.{Stmt}
-use Rattle.lg_verilog.specs.declared.module.Fill.{Fill}
-use Rattle.lg_verilog.specs.declared.module.Word.{Word}
 use Rattle.lg_verilog.specs.declared.module.Port.{Port}
 use Rattle.lg_verilog.specs.declared.module.Module.{Module}
 use Rattle.lg_vrules.specs.declared.names.Sort.{Sort}
@@ -19,7 +14,7 @@ use Rattle.lg_vrules.specs.Things.{range_width, things, port_thing, names, sort_
 use Rattle.lg_vrules.specs.Depends.{names_read}
 use Rattle.lg_vrules.specs.Order.{IsOrder}
 use Rattle.lg_vrules.specs.Places.{place_from}
-use Rattle.lg_vrules.specs.Rules.{is_among, all_differ, is_named, is_of, is_no_clock, is_target, assign_uses, stmt_uses, reads_declared, expr_width, is_width, assign_fits, stmt_fits, decl_fits, fill_fits, word_fits, last_place, stmts_of, fills_of, words_of, assigned, has_each, first_broken}
+use Rattle.lg_vrules.specs.Rules.{is_among, all_differ, is_named, is_of, is_no_clock, is_target, assign_uses, reads_declared, expr_width, is_width, assign_fits, decl_fits, fill_fits, word_fits, fills_of, words_of, assigned, has_each, first_broken}
 use Rattle.lg_vrules.proofs.GraphLemmas.{assign_at, place_tells, same_place}
 use Rattle.lg_vrules.proofs.IndexLemmas.{narrow_widths}
 use Rattle.lg_vrules.proofs.RuleLemmas.{KeepsRules, rules_kept, assigned_differ}
@@ -28,8 +23,8 @@ use Rattle.lg_vmachine.specs.Meaning.{Valuation, memory_words}
 use Rattle.lg_vmeaning.specs.Solution.{AreNumbers, AreMemories, IsOf, IsTheSolution}
 use Rattle.lg_vmeaning.specs.InOrder.{IsIn, AllDiffer, IsGiven, AreOrdered, sources, ordered}
 use Rattle.lg_vmeaning.proofs.InOrderLemmas.{in_either, solved, given_by, TheSolution-ordered}
-use Rattle.lg_vmeaning.proofs.NameLemmas.{found, IsLine, at_lines, line_name, in_among, line_found, named_line, found_in, found_passes, differ_in}
-use Rattle.lg_vmeaning.proofs.OrderLemmas.{At, IsEarlier, KeepOrder, in_order}
+use Rattle.lg_vmeaning.proofs.NameLemmas.{found, IsLine, at_line, at_lines, in_among, line_found, named_line, found_in, found_passes, differ_in}
+use Rattle.lg_vmeaning.proofs.OrderLemmas.{At, KeepOrder, in_order}
 use Rattle.lg_vmachine.proofs.ReadLemmas.{reads_readable}
 
 -- lists
@@ -273,6 +268,15 @@ module _ (m : Module) (order : List ℕ) (broken : first_broken m ≡ None) (is 
   line_width is l here =
       let f = line_found is (things m) l names_differ here in
       ap (λ (o : Option Thing). unwrap_or (option_map (λ (t : Thing). range_width t.high) o) 0) f.1 ∙ f.3
+
+  -- numbers that the widths of all readable names can hold
+  pub within_at : (value : Valuation) → AllByRecursion (λ (l : List ℕ × ℕ). value l.0 < 2 ^ l.1) (lines_of is_readable m) → (name : List ℕ) → is_of is_readable (sort_of m) name ≡ true
+      → value name < 2 ^ width_of m name
+  within_at value within name readable =
+      let t = found_of is_readable name readable in
+      let l = named_line is_readable (things m) name (found_in is_readable (things m) name t.0 t.1 t.2) in
+      let below = at_line (λ (l : List ℕ × ℕ). value l.0 < 2 ^ l.1) (lines_of is_readable m) l.0 within l.1 in
+      subst (λ (n : List ℕ). value n < 2 ^ width_of m n) l.2 (subst (λ (w : ℕ). value l.0.0 < 2 ^ w) (sym (line_width is_readable l.0 l.1)) below)
 
   pub words_within : (kept : Kept) → IsOf m kept → (name : List ℕ) → AllByRecursion (λ (word : ℕ). word < 2 ^ width_of m name) (memory_words m kept name)
   words_within kept of name = step (place_from 0 (names_of is_memory m) name) refl

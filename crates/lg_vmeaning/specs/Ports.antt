@@ -1,5 +1,5 @@
 -- The ports of a module as its users see them, and what it keeps.
-use Rattle.std.specs.Prelude.{ℕ, Bool, true, false, List, map}
+use Rattle.std.specs.Prelude.{ℕ, Bool, List, map}
 use Rattle.lg_verilog.specs.declared.module.Direction.{Direction}
 use Rattle.lg_verilog.specs.declared.module.Direction.TheVariants.{Input as input, Output as output}
 use Rattle.lg_verilog.specs.declared.module.Module.{Module}

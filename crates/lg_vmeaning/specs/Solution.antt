@@ -4,9 +4,6 @@ use Rattle.std.specs.Prelude.{◌≡◌, ℕ, ◌+◌, ◌^◌, ◌<◌, List, [
 use Rattle.std.specs.List.{AllByRecursion}
 use Rattle.lg_verilog.specs.declared.module.Assign.{Assign}
 use Rattle.lg_verilog.specs.declared.module.Module.{Module}
-use Rattle.lg_vrules.specs.declared.names.Sort.{Sort}
-use Rattle.lg_vrules.specs.declared.names.Sort.TheVariants as sort
-use Rattle.lg_vrules.specs.declared.names.Thing.{Thing}
 use Rattle.lg_vrules.specs.Rules.{last_place}
 use Rattle.lg_vrules.specs.Things.{sort_of, lines_of, names_of, is_input, is_output, is_reg, is_memory, is_readable}
 use Rattle.lg_vmachine.specs.Kept.{Kept}

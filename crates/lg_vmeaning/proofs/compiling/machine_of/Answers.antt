@@ -1,10 +1,11 @@
 use Rattle.std.proofs.Common.{◌≡◌, ℕ, List, map, ap, subst, ◌∙◌}
-use Rattle.lg_vrules.specs.Rules.{all_differ, stored, stored_name, stmts_of}
+use Rattle.lg_vrules.specs.Rules.{all_differ, stored, stored_name}
 use Rattle.lg_vrules.specs.Places.{KnowsPlaces}
 use Rattle.lg_vrules.specs.Things.{names_of, is_reg, is_memory}
 use Rattle.lg_verilog.specs.declared.module.Stmt.{Stmt}
 use Rattle.lg_vmeaning.specs.Compiled.{known}
-use Rattle.lg_vmeaning.proofs.RunLemmas.{known_differ, memories_differ}
+use Rattle.lg_vmeaning.proofs.RunLemmas.{known_differ}
+use Rattle.lg_vmeaning.proofs.WordLemmas.{memories_differ}
 use Rattle.lg_vmeaning.proofs.CompiledLemmas.{texts, known_names, equations_are, outputs_are, nexts_are, writes_are, KnowsModule}
 use Rattle.lg_vmeaning.proofs.compiling.machine_of.Goals as goal
 
@@ -18,7 +19,7 @@ of-requires c =
 
 pub of-requires-2 : goal.of-requires-2
 of-requires-2 c =
-    ap all_differ (ap texts c.as_slice-3.ensures.value ∙ c.in_ok-memories.ensures) ∙ memories_differ c.args.«module».now c.args.order.now c.requires.rules c.requires.order
+    ap all_differ (ap texts c.as_slice-3.ensures.value ∙ c.in_ok-memories.ensures) ∙ memories_differ c.args.«module».now c.requires.rules
 
 pub returns : goal.returns
 returns c =

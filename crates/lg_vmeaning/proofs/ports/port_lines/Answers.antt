@@ -1,4 +1,4 @@
-use Rattle.std.proofs.Common.{◌≡◌, ◌≤◌, List, length, map, take, sym, ap, ◌∙◌, arith}
+use Rattle.std.proofs.Common.{◌≡◌, List, length, map, take, sym, ap, ◌∙◌, arith}
 use Rattle.std.proofs.SliceLists.{take_long}
 use Rattle.lg_verilog.specs.declared.module.Port.{Port}
 use Rattle.lg_vrules.specs.Things.{port_thing}

@@ -1,4 +1,4 @@
-use Rattle.std.proofs.Common.{◌≡◌, ℕ, List, subst}
+use Rattle.std.proofs.Common.{subst}
 use Rattle.lg_verilog.specs.declared.module.Module.{Module}
 use Rattle.lg_vrules.specs.Things.{lines_of, is_input}
 use Rattle.lg_vmachine.specs.Meaning.{Valuation}
