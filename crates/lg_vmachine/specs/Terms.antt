@@ -1,4 +1,4 @@
--- The numbers of expressions over places, as they are computed. No contract of the crate's surface speaks of this.
+-- The numbers of expressions over places, as they are computed.
 use Rattle.std.specs.Prelude.{ℕ, ◌+◌, ◌-◌, ◌*◌, ◌/◌, ◌%◌, ◌^◌, ◌==◌, nat_lt, min, List, [], Option, unwrap_or, fold, slice_index_or, if◌then◌else◌, bit_and, bit_or, bit_xor}
 use Rattle.lg_verilog.specs.declared.expr.Operator.{Operator}
 use Rattle.lg_verilog.specs.declared.expr.Operator.TheVariants as operator

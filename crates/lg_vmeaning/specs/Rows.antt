@@ -1,5 +1,5 @@
 -- What a module means over rows: where it starts, what an edge stores, and the outputs row by row.
--- Source: IEEE 1364-2005, 9.2.1 (initial values, blocking assignments in order), 9.2.2 (nonblocking assignments: all is
+-- Source: IEEE 1364-2005, 6.2.1 (variable declaration assignments), 9.9.1 (initial construct), 9.2.1 (blocking assignments, in order), 9.2.2 (nonblocking assignments: all is
 -- computed before anything is stored).
 use Rattle.std.specs.Prelude.{◌≡◌, ℕ, ◌+◌, ◌==◌, List, [], ◌∷◌, map, zip, fold, find, filter_map, replicate, Option, Some, None, option_map, unwrap_or, slice_set, if◌then◌else◌}
 use Rattle.std.specs.Str.{bytes_eq}

@@ -14,7 +14,7 @@ use sqlite_items::Items;
 use std::alloc::Global;
 
 impl Valid {
-    /// Whether there is one number for each input, within its width: what the calls below ask for.
+    /// Whether there is one number for each input, within its width: what the calls below ask of numbers.
     pub fn fits(&self, inputs: &[u64]) -> bool
         ensures { IsTrue result ↔ AreNumbers (lines_of is_input self.now) inputs.now }
     {

@@ -1,4 +1,4 @@
--- What an index of names knows. No contract of the crate's surface speaks of this.
+-- What an index of names knows.
 use Rattle.std.specs.Prelude.{◌≡◌, ◌≤◌, ℕ, Bool, true, false, List, map, Option, Some, None, is_none, option_map, unwrap_or}
 use Rattle.std.specs.BTreeMap.{get_by_text}
 use Rattle.std.specs.BTreeSet.{contains_text}

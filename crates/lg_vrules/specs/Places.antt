@@ -1,4 +1,4 @@
--- What an index of names knows, and the places of what an expression reads. No contract of the crate's surface speaks of this.
+-- What an index of names knows, and the places of what an expression reads.
 use Rattle.std.specs.Prelude.{◌≡◌, ℕ, ◌+◌, Bool, List, [], ◌∷◌, Option, Some, None, if◌then◌else◌}
 use Rattle.std.specs.BTreeMap.{get_by_text}
 use Rattle.std.specs.List.{flat_map}

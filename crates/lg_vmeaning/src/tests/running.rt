@@ -26,8 +26,8 @@ const CASES: &[Case] = &[
     // joined and cut, in an order of lines that is not that of the wires
     (
         "module c_(input wire [7:0] i_A, output wire [3:0] o_H, output wire [3:0] o_L); wire [15:0] w_0; assign o_H = w_0[11:8]; assign o_L = w_0[7:4]; assign w_0 = {i_A, (~i_A)}; endmodule",
-        &[&[0x5a]],
-        &[&[0xa, 0xa]],
+        &[&[0x2c]],
+        &[&[0xc, 0xd]],
     ),
     // the product of two numbers of 64 bits, in 128
     (
@@ -80,8 +80,15 @@ const CASES: &[Case] = &[
     // a memory is read and written at one place in one edge: the old word is read
     (
         "module c_(input wire clk, input wire i_A, input wire [7:0] i_D, input wire i_W, output wire [7:0] o_Y); reg [7:0] m0 [0:1]; integer k; initial begin for (k = 0; k < 2; k = k + 1) m0[k] = 8'd3; m0[1] = 8'd5; m0[1] = 8'd6; end assign o_Y = m0[i_A]; always @(posedge clk) begin if (i_W) m0[i_A] <= i_D; end endmodule",
-        &[&[1, 9, 1], &[1, 8, 0], &[1, 7, 1], &[0, 1, 1], &[0, 0, 0]],
-        &[&[6], &[9], &[9], &[3], &[1]],
+        &[
+            &[1, 9, 1],
+            &[1, 8, 0],
+            &[1, 7, 1],
+            &[0, 1, 1],
+            &[1, 0, 0],
+            &[0, 0, 0],
+        ],
+        &[&[6], &[9], &[9], &[3], &[7], &[1]],
     ),
     // what is stored into a memory is computed before a register changes, and its place too
     (
@@ -95,6 +102,30 @@ const CASES: &[Case] = &[
         &[&[], &[]],
     ),
     ("module c_(); endmodule", &[], &[]),
+    // two memories, filled in the other order than declared, with words in turn between one another; a sum that is cut
+    (
+        "module c_(input wire clk, input wire [1:0] i_A, output wire [3:0] o_0, output wire [8:0] o_1); reg [3:0] m0 [0:3]; reg [8:0] m1 [0:1]; integer k; initial begin for (k = 0; k < 2; k = k + 1) m1[k] = 9'd300; for (k = 0; k < 4; k = k + 1) m0[k] = 4'd2; m1[0] = 9'd7; m0[3] = 4'd9; m1[1] = 9'd8; m0[0] = 4'd1; end assign o_0 = m0[i_A]; assign o_1 = m1[i_A[1]]; always @(posedge clk) begin if (i_A[0]) m1[i_A[1]] <= (m1[i_A[1]] + 9'd505); if (i_A[1]) m0[(~i_A)] <= (m0[i_A] + 4'd8); end endmodule",
+        &[&[0], &[1], &[2], &[3], &[0], &[3]],
+        &[&[1, 7], &[2, 7], &[2, 8], &[9, 8], &[1, 0], &[9, 1]],
+    ),
+    // four in braces; an output is read; the clock stands between inputs, and stores in another order than registers
+    (
+        "module c_(input wire i_A, input wire clk, input wire [2:0] i_B, output wire [8:0] o_Z, output wire [8:0] o_Y); reg r_0 = 1'd1; reg [3:0] r_1 = 4'd5; assign o_Z = {i_A, i_B, r_1, r_0}; assign o_Y = (~o_Z); always @(posedge clk) begin r_1 <= {i_B, r_0}; r_0 <= i_A; end endmodule",
+        &[&[1, 6], &[0, 3]],
+        &[&[459, 52], &[123, 388]],
+    ),
+    // two registers, the first fed by the inverse of the second
+    (
+        "module c_(input wire clk, output wire o_A, output wire o_B); wire w_0; wire w_1; reg r_0 = 1'd0; reg r_1 = 1'd0; assign w_0 = (~r_1); assign w_1 = r_0; assign o_A = r_0; assign o_B = r_1; always @(posedge clk) begin r_0 <= w_0; r_1 <= w_1; end endmodule",
+        &[&[], &[], &[], &[]],
+        &[&[0, 0], &[1, 0], &[1, 1], &[0, 1]],
+    ),
+    // 128 bits: shifts, the guard, a remainder, a complement, comparisons
+    (
+        "module c_(input wire [63:0] i_A, output wire o_E, output wire o_L, output wire [63:0] o_R, output wire [63:0] o_S, output wire [63:0] o_Q, output wire [63:0] o_M, output wire [63:0] o_N); wire [127:0] w_0; wire [127:0] w_1; wire [127:0] w_2; wire [127:0] w_3; wire [127:0] w_4; wire [127:0] w_5; assign w_0 = {i_A, 64'd5}; assign w_1 = (w_0 >> 128'd340282366920938463463374607431768211455); assign w_2 = (w_0 << 7'd64); assign w_3 = (w_0 / ((w_1 == 128'd0) ? 128'd1 : w_1)); assign w_4 = (w_0 % 128'd7); assign w_5 = (~w_0); assign o_E = (w_0 == w_3); assign o_L = (w_0 < w_5); assign o_R = w_1[63:0]; assign o_S = w_2[127:64]; assign o_Q = w_3[127:64]; assign o_M = w_4[63:0]; assign o_N = w_5[127:64]; endmodule",
+        &[&[TOP], &[0]],
+        &[&[1, 0, 0, 5, TOP, 0, 0], &[1, 1, 0, 5, 0, 5, TOP]],
+    ),
 ];
 
 fn outputs(
