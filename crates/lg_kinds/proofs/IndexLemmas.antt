@@ -1,11 +1,11 @@
 -- Places under two names.
-use Rattle.std.proofs.Common.{◌≡◌, ◌∙◌, sym, ap, subst, ℕ, Bool, true, false, cond, ◌&&◌, List, [], ◌∷◌, length, map, Option, Some, None, is_some, refl, inl, inr, ◌⊎◌}
+use Rattle.std.proofs.Common.{◌≡◌, ◌∙◌, sym, ap, ℕ, Bool, true, false, cond, ◌&&◌, List, [], ◌∷◌, map, Option, Some, is_some, refl, inl, inr, ◌⊎◌}
 use Rattle.std.specs.Prelude.{String, string_bytes}
 use Rattle.std.specs.BTreeMap.{BTreeMap, get_by_text, keys, btree_map_len, IsOrdered}
 use Rattle.std.specs.Cmp.{IsEquivalence}
 use Rattle.std.specs.Cmp.Lexicographic.{slice_cmp}
 use Rattle.std.specs.List.{list_any, AllByRecursion, IsDistinct}
-use Rattle.std.specs.Map.{update, keys_of}
+use Rattle.std.specs.Map.{update}
 use Rattle.std.specs.Option.{option_and_then}
 use Rattle.std.specs.Ordering.{is_eq, nat_cmp, eq_by_cmp}
 use Rattle.std.specs.Set.{distinct_count, is_member}

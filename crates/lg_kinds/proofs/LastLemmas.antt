@@ -1,5 +1,5 @@
 -- Where the last element of a list stands that gives something.
-use Rattle.std.proofs.Common.{◌≡◌, ◌∙◌, sym, ap, ℕ, zero, suc, Bool, true, false, true≢false, cond, ◌||◌, List, [], ◌∷◌, ◌++◌, length, Option, Some, None, is_some, refl}
+use Rattle.std.proofs.Common.{◌≡◌, ◌∙◌, sym, ap, ℕ, suc, Bool, true, false, true≢false, cond, ◌||◌, List, [], ◌∷◌, ◌++◌, length, Option, Some, None, is_some, refl}
 use Rattle.std.specs.Prelude.{option_map, if◌then◌else◌, slice_get}
 use Rattle.std.specs.Option.{option_or, option_and_then}
 use Rattle.lg_kinds.specs.Latest.{last_place}

@@ -16,7 +16,7 @@ use Rattle.lg_kinds.specs.declared.record.Record.{Record}
 use Rattle.lg_kinds.specs.declared.record.Record.TheVariants.{Port, Delay, Default, Circuit}
 use Rattle.lg_kinds.specs.Index.{Puts}
 use Rattle.lg_kinds.specs.Latest.{KnowsLatest, Learns, last_place}
-use Rattle.lg_kinds.specs.PortTable.{circuit_in, default_in, delay_in, pin_in, pins_of, place_in}
+use Rattle.lg_kinds.specs.PortTable.{circuit_in, default_in, delay_in, pins_of, place_in}
 use Rattle.lg_kinds.specs.Table.{name_of}
 use Rattle.lg_kinds.proofs.LastLemmas.{last_place-put, last_place-kept, some_or, some_next}
 

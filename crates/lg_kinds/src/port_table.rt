@@ -1,6 +1,7 @@
 //! What stands in place of the table of kinds: places of ports, delays, and values of attributes that are left out.
 
-ghost use Rattle.std.specs.Prelude.{ℕ, List, ◌≡◌, [], option_map, IfOk};
+ghost use Rattle.std.specs.Prelude.{ℕ, List, ◌≡◌, ◌≤◌, [], option_map, IfOk, IfSome};
+ghost use Rattle.std.specs.Int.NonZero.{non_zero_u8_get};
 ghost use denote.Bor.{Bor};
 ghost use Rattle.lg_kinds.specs.PortTable.{default_of, place_of, delay_in_table, sheet_row, sheet_rows};
 ghost use Rattle.std.proofs.Props.{props};
@@ -59,7 +60,8 @@ impl PortTable {
 
     /// The delay that the last record for the kind's delay gives it, where there is one.
     pub fn delay_of(&self, kind: Kind) -> Option<NonZeroU8>
-        ensures { result ≡ delay_in_table self.now.records kind }
+        ensures delay { result ≡ delay_in_table self.now.records kind }
+        ensures range { IfSome result (λ instants. (1 ≤ non_zero_u8_get instants) × (non_zero_u8_get instants ≤ 255)) }
     {
         let place = self.latest.delays.get(kind_name(kind)).copied();
         match self.record_at(place) {

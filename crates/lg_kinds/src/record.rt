@@ -1,6 +1,7 @@
 //! The records of a port table.
 
-ghost use Rattle.std.specs.Prelude.{ℕ, List, ◌≡◌, option_map};
+ghost use Rattle.std.specs.Prelude.{ℕ, List, ◌≡◌, ◌≤◌, option_map, IfSome};
+ghost use Rattle.std.specs.Int.NonZero.{non_zero_u8_get};
 ghost use denote.Bor.{Bor};
 ghost use Rattle.lg_kinds.specs.PortTable.{default_in, place_in, circuit_in, delay_in};
 
@@ -85,10 +86,14 @@ impl Record {
 
     // The delay that the record gives a kind.
     pub fn delay_of(&self, kind: Kind) -> Option<NonZeroU8>
-        ensures { result ≡ delay_in kind self.now }
+        ensures delay { result ≡ delay_in kind self.now }
+        ensures range { IfSome result (λ instants. (1 ≤ non_zero_u8_get instants) × (non_zero_u8_get instants ≤ 255)) }
     {
         match self {
-            Record::Delay { kind: of, instants } if is_same(*of, kind) => Some(*instants),
+            Record::Delay { kind: of, instants } if is_same(*of, kind) => {
+                let _read = instants.get();
+                Some(*instants)
+            }
             _ => None,
         }
     }

@@ -4,3 +4,4 @@ pub mod LiteralLemmas
 pub mod RowLemmas
 pub mod GrowingLemmas
 pub mod ContentsLemmas
+pub mod DelayLemmas

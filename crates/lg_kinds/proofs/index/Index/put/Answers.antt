@@ -1,5 +1,5 @@
 -- A place under two names, under the first of which there are others, or none.
-use Rattle.std.proofs.Common.{rules, ◌≡◌, ◌∙◌, sym, ap, subst, ℕ, List, Option, Some, None}
+use Rattle.std.proofs.Common.{rules, ◌≡◌, ◌∙◌, sym, ap, subst, ℕ, List, Some, None}
 use Rattle.std.specs.Prelude.{string_bytes}
 use Rattle.std.specs.BTreeMap.{get_by_text, is_at}
 use Rattle.std.specs.Cmp.Lexicographic.{slice_cmp}

@@ -6,14 +6,14 @@ use Rattle.lg_kinds.specs.PortTable.{delay_in}
 use Rattle.lg_kinds.proofs.LastLemmas.{looked_up}
 use Rattle.lg_kinds.proofs.port_table.PortTable.delay_of.Goals as goal
 
-pub returns-in-Some : goal.returns-in-Some
-returns-in-Some c =
+pub returns-in-Some-clause-delay : goal.returns-in-Some-clause-delay
+returns-in-Some-clause-delay c =
     let records = c.args.self.now.records in
     let known : c.copied-place.result ≡ last_place (delay_in c.args.kind) records = c.copied-place.ensures ∙ c.get.ensures.value ∙ ap (get_by_text c.args.self.now.latest.delays) c.kind_name.ensures ∙ c.args.self.now.known.delays c.args.kind in
-    c.delay_of.ensures ∙ looked_up (delay_in c.args.kind) records (c.copied-place.result) (Some c.in-Some.record.now) known (sym (ap option_copied c.in-Some.is) ∙ c.record_at.ensures)
+    c.delay_of.ensures.delay ∙ looked_up (delay_in c.args.kind) records (c.copied-place.result) (Some c.in-Some.record.now) known (sym (ap option_copied c.in-Some.is) ∙ c.record_at.ensures)
 
-pub returns-in-None : goal.returns-in-None
-returns-in-None c =
+pub returns-in-None-clause-delay : goal.returns-in-None-clause-delay
+returns-in-None-clause-delay c =
     let records = c.args.self.now.records in
     let known : c.copied-place.result ≡ last_place (delay_in c.args.kind) records = c.copied-place.ensures ∙ c.get.ensures.value ∙ ap (get_by_text c.args.self.now.latest.delays) c.kind_name.ensures ∙ c.args.self.now.known.delays c.args.kind in
     looked_up (delay_in c.args.kind) records (c.copied-place.result) None known (sym (ap option_copied c.in-None.is) ∙ c.record_at.ensures)
