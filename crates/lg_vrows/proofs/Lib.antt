@@ -1,0 +1,11 @@
+pub mod BoundLemmas
+pub mod FaultLemmas
+pub mod InputLemmas
+pub mod PortLemmas
+pub mod TextLemmas
+pub mod FirstLemmas
+pub mod OneModule
+pub mod OneRows
+pub mod OneVector
+pub mod OneFault
+pub mod OneText

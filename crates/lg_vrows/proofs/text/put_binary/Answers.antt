@@ -1,0 +1,19 @@
+use Rattle.std.proofs.Common.{◌≡◌, ◌+◌, ◌-◌, ◌++◌, [], ◌∷◌, List, ℕ, take, Some, sym, ap, ◌∙◌, append_assoc}
+use Rattle.std.specs.Prelude.{slice_get}
+use Rattle.lg_value.specs.declared.bit.Bit.{Bit}
+use Rattle.lg_value.specs.Bit.{digit_of}
+use Rattle.lg_value.specs.Word.{word_of_number}
+use Rattle.lg_vrows.specs.Text.{binary}
+use Rattle.lg_vrows.proofs.TextLemmas.{digit_more}
+use Rattle.lg_vrows.proofs.text.put_binary.Goals as goal
+
+pub loop-place-preserved : goal.loop-place-preserved
+loop-place-preserved c =
+    let width = c.args.width in
+    let place = c.loop-place.place in
+    let bit : Bit = c.bit.result in
+    let at : slice_get (word_of_number width c.args.number) (width - 1 - place) ≡ Some bit = ap (λ (word : List Bit). slice_get word (width - 1 - place)) (sym c.from_number-word.ensures.bits) ∙ c.bit.ensures in
+    c.in_ok-push.ensures.items
+    ∙ ((λ k. c.loop-place.invariant k ++ c.digit.ensures k ∷ [])
+    ∙ (append_assoc c.args.text.now.items (take place (binary width c.args.number)) ((48 + digit_of bit) ∷ [])
+    ∙ ap (λ (digits : List ℕ). c.args.text.now.items ++ digits) (sym (digit_more width c.args.number place bit c.loop-place-test.true at))))

@@ -1,0 +1,5 @@
+pub mod Faults
+pub mod Rows
+pub mod Text
+pub mod Due
+pub mod Steps

@@ -1,0 +1,17 @@
+//! Rows of modules: a vector bound to the inputs of a module, and the text of its outputs.
+#![tactic(auto)]
+
+mod fault;
+mod inputs;
+mod law;
+mod pins;
+mod reading;
+#[cfg(test)]
+mod tests;
+mod text;
+mod vrun;
+
+pub use fault::{ModuleFault, RowsFault};
+pub use law::{modules_have_one_answer, rows_have_one_answer};
+pub use reading::valid_module;
+pub use vrun::rows_text;
