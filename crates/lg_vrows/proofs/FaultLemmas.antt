@@ -1,5 +1,5 @@
 -- A valid module has no fault but want of memory, and what stands against binding columns stands against rows.
-use Rattle.std.proofs.Common.{◌≡◌, ◌≢◌, ℕ, ◌≤◌, List, length, refl, sym, subst, ◌∙◌, inl, inr, ◌⊎◌}
+use Rattle.std.proofs.Common.{◌≡◌, ◌≢◌, ℕ, ◌≤◌, List, length, refl, sym, subst, inl, inr, ◌⊎◌}
 use Rattle.lg_vectors.specs.declared.fault.VectorFault.{VectorFault}
 use Rattle.lg_vectors.specs.declared.fault.VectorFault.TheVariants as vector
 use Rattle.lg_vectors.specs.declared.column.Column.{Column}
@@ -7,9 +7,6 @@ use Rattle.lg_vectors.specs.CaredBits.{CaredBits}
 use Rattle.lg_vectors.specs.Binding.{IsBindFault, IsMissing}
 use Rattle.lg_vectors.specs.VectorText.{IsVectorText}
 use Rattle.lg_verilog.specs.declared.module.Module.{Module}
-use Rattle.lg_vmeaning.specs.Valid.{IsValid, IsInvalid}
-use Rattle.lg_vmeaning.specs.declared.validity.MeanFault.{MeanFault}
-use Rattle.lg_vmeaning.specs.declared.validity.MeanFault.TheVariants as mean
 use Rattle.lg_vrows.specs.Due.{IsRowsFault}
 use Rattle.lg_vrows.specs.Faults.{vector_fault}
 use Rattle.lg_vrows.specs.Rows.{input_pins}
