@@ -1,6 +1,6 @@
 #!/usr/bin/env bash
-# Times modules that are read, tested and run: 64 stages, each a 16-bit adder and register, on 1 and on 65,536 rows, and chains
-# of 1,000, 10,000 and 100,000 assigns, the last first, on 1 row. The best of three runs each.
+# Times modules that are read, tested and run: 64 stages, each a 16-bit adder and register, and a memory of 2^20 words, on 1
+# and on 65,536 rows; and chains of 1,000, 10,000 and 100,000 assigns, the last first, on 1 row. The best of three runs each.
 set -eu
 cd "$(dirname "$0")/.."
 folder=$(mktemp -d)
@@ -76,6 +76,23 @@ stages() {
   }'
 }
 
+# Each row adds 1 to a word.
+memory() {
+  cat <<'MODULE'
+module c_main(input wire clk, input wire [15:0] i_A, output wire [15:0] o_Y);
+  reg [15:0] m0 [0:1048575];
+  integer k;
+  initial begin
+    for (k = 0; k < 1048576; k = k + 1) m0[k] = 16'd0;
+  end
+  assign o_Y = m0[{4'd0, i_A}];
+  always @(posedge clk) begin
+    if (1'd1) m0[{4'd0, i_A}] <= (o_Y + 16'd1);
+  end
+endmodule
+MODULE
+}
+
 # Each wire is the complement of the one before it; the last is given its number first.
 chain() {
   awk -v wires="$1" 'BEGIN {
@@ -102,9 +119,12 @@ best() {
 
 stages 64 >"$folder/stages.v"
 (cd "$crate" && rt run -- "$folder/stages.v" 1) >"$folder/build.log" 2>&1 || { cat "$folder/build.log"; exit 1; }
-one=$(best "$folder/stages.v" 1)
-all=$(best "$folder/stages.v" 65536)
-awk -v one="$one" -v all="$all" 'BEGIN { printf "64 stages  1 row %.1f ms  65,536 rows %.1f ms  %.4f ms a row\n", one / 1000, all / 1000, (all - one) / 65535 / 1000 }'
+memory >"$folder/memory.v"
+for shape in stages memory; do
+  one=$(best "$folder/$shape.v" 1)
+  all=$(best "$folder/$shape.v" 65536)
+  awk -v shape="$shape" -v one="$one" -v all="$all" 'BEGIN { printf "%-6s  1 row %.1f ms  65,536 rows %.1f ms  %.4f ms a row\n", shape, one / 1000, all / 1000, (all - one) / 65535 / 1000 }'
+done
 
 first=
 for count in 1000 10000 100000; do
