@@ -1,9 +1,7 @@
 -- What the steps of the crate ask for and give. No contract of the crate's surface speaks of this.
-use Rattle.std.specs.Prelude.{◌≡◌, ℕ, ◌<◌, List, ◌++◌, map, slice_get, slice_index, length, Some}
-use Rattle.std.specs.List.{flat_map, enumerate_from}
+use Rattle.std.specs.Prelude.{◌≡◌, ℕ, ◌<◌, List, map, slice_get, slice_index, length, Some}
 use Rattle.lg_value.specs.Word.{IsWidth}
 use Rattle.lg_vmeaning.specs.declared.ports.PortLine.{PortLine}
-use Rattle.lg_vrows.specs.Text.{heading_text, row_text}
 
 -- the name has two bytes or more, and the second is ASCII, so that it can be cut behind that
 pub record IsMarked (name : List ℕ) : Type 0 where
@@ -23,7 +21,3 @@ lines ports = map (λ (line : PortLine). (line.name, line.width)) ports
 pub record ArePlaces (inputs : ℕ) (places : List ℕ) : Type 0 where
   pub below : (column place : ℕ) → slice_get places column ≡ Some place → place < inputs
   pub apart : (column other place : ℕ) → slice_get places column ≡ Some place → slice_get places other ≡ Some place → column ≡ other
-
--- the text of outputs row by row, for ports with these names and widths
-abbrev pub table_text : List (List ℕ × ℕ) → List (List ℕ) → List ℕ
-table_text ports outs = heading_text ports ++ flat_map (row_text ports) (enumerate_from 1 outs)

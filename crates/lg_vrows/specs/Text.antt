@@ -23,6 +23,10 @@ heading_text lines = codes "row" ++ fields_text (map (λ (l : List ℕ × ℕ). 
 abbrev pub row_text : List (List ℕ × ℕ) → ℕ × List ℕ → List ℕ
 row_text lines row = decimal row.0 ++ fields_text (map (λ (p : (List ℕ × ℕ) × ℕ). binary p.0.1 p.1) (zip lines row.1))
 
--- the text of outputs row by row, counted from 1
+-- the text of outputs row by row, counted from 1, for ports with these names and widths
+abbrev pub table_text : List (List ℕ × ℕ) → List (List ℕ) → List ℕ
+table_text ports outs = heading_text ports ++ flat_map (row_text ports) (enumerate_from 1 outs)
+
+-- and for the outputs of a module
 abbrev pub rows_text : Module → List (List ℕ) → List ℕ
-rows_text m outs = heading_text (lines_of is_output m) ++ flat_map (row_text (lines_of is_output m)) (enumerate_from 1 outs)
+rows_text m outs = table_text (lines_of is_output m) outs

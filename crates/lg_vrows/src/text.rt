@@ -3,8 +3,8 @@
 ghost use Rattle.std.specs.Prelude.{◌≡◌, ◌+◌, ◌++◌, All, IfOk, OnOk};
 ghost use Rattle.lg_value.specs.Bit.{digit_of};
 ghost use Rattle.lg_value.specs.Word.{IsWidth};
-ghost use Rattle.lg_vrows.specs.Steps.{IsMarked, IsPrinted, lines, table_text};
-ghost use Rattle.lg_vrows.specs.Text.{heading_text, row_text, binary};
+ghost use Rattle.lg_vrows.specs.Steps.{IsMarked, IsPrinted, lines};
+ghost use Rattle.lg_vrows.specs.Text.{table_text, heading_text, row_text, binary};
 
 use crate::pins::plain;
 use itoa::Buffer;

@@ -17,7 +17,8 @@ use Rattle.lg_vmeaning.specs.Ports.{port_lines}
 use Rattle.lg_vmeaning.specs.Rows.{start, AreRows}
 use Rattle.lg_vmeaning.specs.Solution.{AreNumbers}
 use Rattle.lg_vrows.specs.Rows.{AreBoundRows, AreInputs, IsDefinedRow, IsFirstUndefined, input_pin, input_pins}
-use Rattle.lg_vrows.specs.Steps.{IsMarked, IsPrinted, ArePlaces, lines, table_text}
+use Rattle.lg_vrows.specs.Steps.{IsMarked, IsPrinted, ArePlaces, lines}
+use Rattle.lg_vrows.specs.Text.{table_text}
 use Rattle.lg_vrows.proofs.BoundLemmas.{are_places}
 use Rattle.lg_vrows.proofs.FaultLemmas.{unbound_fault}
 use Rattle.lg_vrows.proofs.InputLemmas.{rows_fit}
