@@ -3,16 +3,13 @@
 # and 65,536 components that leave it out: the best of three runs each, as ratios to the first.
 set -eu
 cd "$(dirname "$0")/.."
-folder=$(mktemp -d)
-trap 'rm -rf "$folder"' EXIT
-crate=$folder/repo/crates/bench_parts
+name=bench_parts
+. bench/program.sh
 
 # Builds a program that reads a port table and asks for the ports of so many components, over a copy of the repository and
 # outside it, and runs it.
 build() {
-  git clone -q . "$folder/repo"
-  mkdir -p "$crate/src"
-  cat >"$crate/src/main.rt" <<'PROGRAM'
+  build_program "lg_io lg_parts lg_kinds lg_attrs lg_text sqlite_items" "$1" 1 <<'PROGRAM'
 //! Reads a port table, asks for the ports of so many components, and says by its status whether all have some.
 #![tactic(auto)]
 
@@ -57,21 +54,6 @@ fn have_ports(alloc: Global, table: &PortTable, count: u32) -> Option<bool> {
     Some(true)
 }
 PROGRAM
-  echo "bench_parts: lg_io lg_parts lg_kinds lg_attrs lg_text sqlite_items" >>"$folder/repo/crates.txt"
-  (cd "$crate" && rt run -- "$1" 1) >"$folder/build.log" 2>&1 || { cat "$folder/build.log"; exit 1; }
-}
-
-# Microseconds of the best of three runs.
-best() {
-  local least= from to took
-  for _ in 1 2 3; do
-    from=$(date +%s%N)
-    "$crate/out/bench_parts" "$1" "$2"
-    to=$(date +%s%N)
-    took=$(((to - from) / 1000))
-    if [ -z "$least" ] || [ "$took" -lt "$least" ]; then least=$took; fi
-  done
-  echo "$least"
 }
 
 # A port table of so many records, the last of which gives a gate three inputs.

@@ -4,15 +4,12 @@
 #   uses     the crates that the call stands on
 #   most     how many bytes a file has at most
 # and calls `build FILE` once and then `best FILE` for each size. $folder is a folder that is gone at the end.
-folder=$(mktemp -d)
-trap 'rm -rf "$folder"' EXIT
-crate=$folder/repo/crates/bench_reader
+name=bench_reader
+. bench/program.sh
 
 # Builds a program that reads a file with the reader, over a copy of the repository and outside it, and runs it on a file.
 build() {
-  git clone -q . "$folder/repo"
-  mkdir -p "$crate/src"
-  cat >"$crate/src/main.rt" <<PROGRAM
+  build_program "lg_io $uses" "$1" <<PROGRAM
 //! Reads what a file holds, and says by its status whether that could be read.
 #![tactic(auto)]
 
@@ -39,19 +36,4 @@ fn count_of_file(rt: HostRuntime) -> Option<usize> {
     Some(read.$counted.len())
 }
 PROGRAM
-  echo "bench_reader: lg_io $uses" >>"$folder/repo/crates.txt"
-  (cd "$crate" && rt run -- "$1") >"$folder/build.log" 2>&1 || { cat "$folder/build.log"; exit 1; }
-}
-
-# Microseconds of the best of three runs.
-best() {
-  local least= from to took
-  for _ in 1 2 3; do
-    from=$(date +%s%N)
-    "$crate/out/bench_reader" "$1"
-    to=$(date +%s%N)
-    took=$(((to - from) / 1000))
-    if [ -z "$least" ] || [ "$took" -lt "$least" ]; then least=$took; fi
-  done
-  echo "$least"
 }

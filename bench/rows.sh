@@ -3,13 +3,12 @@
 # and on 65,536 rows; and chains of 1,000, 10,000 and 100,000 assigns, the last first, on 1 row. The best of three runs each.
 set -eu
 cd "$(dirname "$0")/.."
-folder=$(mktemp -d)
-trap 'rm -rf "$folder"' EXIT
-crate=$folder/repo/crates/bench_rows
+name=bench_rows
+. bench/program.sh
 
-git clone -q . "$folder/repo"
-mkdir -p "$crate/src"
-cat >"$crate/src/main.rt" <<'PROGRAM'
+# Builds the program that runs a module on so many rows.
+build() {
+  build_program "lg_io lg_verilog lg_vmeaning sqlite_items" "$1" 1 <<'PROGRAM'
 //! Runs a module on so many rows, and says by its status whether it could be run.
 #![tactic(auto)]
 
@@ -53,7 +52,7 @@ fn rows(alloc: Global, count: u64) -> Option<Vec<Items<u64>>> {
     Some(rows)
 }
 PROGRAM
-echo "bench_rows: lg_io lg_verilog lg_vmeaning sqlite_items" >>"$folder/repo/crates.txt"
+}
 
 # Stage k keeps the sum of what it keeps and of what stage k - 1 does.
 stages() {
@@ -104,21 +103,8 @@ chain() {
   }'
 }
 
-# Microseconds of the best of three runs of a file on so many rows.
-best() {
-  local least= from to took
-  for _ in 1 2 3; do
-    from=$(date +%s%N)
-    "$crate/out/bench_rows" "$1" "$2"
-    to=$(date +%s%N)
-    took=$(((to - from) / 1000))
-    if [ -z "$least" ] || [ "$took" -lt "$least" ]; then least=$took; fi
-  done
-  echo "$least"
-}
-
 stages 64 >"$folder/stages.v"
-(cd "$crate" && rt run -- "$folder/stages.v" 1) >"$folder/build.log" 2>&1 || { cat "$folder/build.log"; exit 1; }
+build "$folder/stages.v"
 memory >"$folder/memory.v"
 for shape in stages memory; do
   one=$(best "$folder/$shape.v" 1)
