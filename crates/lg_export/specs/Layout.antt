@@ -1,13 +1,18 @@
 -- The module of a netlist: each part has its own wires and its own equations, by its number.
 -- Source: the layout of this project, in the subset of IEEE 1364-2005.
-use Rattle.std.specs.Prelude.{ℕ, ◌+◌, not, ◌==◌, List, [], ◌∷◌, ◌++◌, length, map, filter, find, fold, slice_index, option_map, unwrap_or, codes, None}
+use Rattle.std.specs.Prelude.{ℕ, ◌+◌, ◌-◌, Bool, not, ◌&&◌, ◌==◌, List, [], ◌∷◌, ◌++◌, length, map, filter, fold, slice_get, option_map, unwrap_or, codes, Option, None, Some, if◌then◌else◌}
 use Rattle.std.specs.List.{flat_map, enumerate_from}
 use Rattle.std.specs.Fmt.{decimal}
+use Rattle.std.specs.Str.{bytes_eq}
+use Rattle.lg_netlist.specs.declared.drivers.Driver.{Driver}
+use Rattle.lg_netlist.specs.declared.drivers.Driver.TheVariants.{Part, Pin, Clock}
 use Rattle.lg_netlist.specs.declared.netlist.Cell.{Cell}
 use Rattle.lg_netlist.specs.declared.netlist.Cell.TheVariants as cell
 use Rattle.lg_netlist.specs.declared.netlist.PartUse.{PartUse}
 use Rattle.lg_netlist.specs.declared.netlist.PinUse.{PinUse}
 use Rattle.lg_netlist.specs.declared.netlist.Netlist.{Netlist}
+use Rattle.lg_netlist.specs.Cell.{input_width, output_width}
+use Rattle.lg_netlist.specs.Drivers.{first_driver}
 use Rattle.lg_netlist.specs.Names.{name_of_label}
 use Rattle.lg_netlist.specs.Static.{input_pins, output_pins}
 use Rattle.lg_verilog.specs.declared.module.Direction.TheVariants.{Input, Output}
@@ -39,25 +44,72 @@ input_wire part input = codes "x" ++ decimal part ++ codes "_" ++ decimal input
 abbrev pub output_wire : ℕ → ℕ → List ℕ
 output_wire part output = codes "w" ++ decimal part ++ codes "_" ++ decimal output
 
--- the net and the name of what drives it, for each output of a part and for each input pin of one bit
-abbrev pub output_drivers : ℕ → ℕ → List (List ℕ) → List (ℕ × List ℕ)
-output_drivers part output [] = []
-output_drivers part output (bits ∷ more) = map (λ net. (net, output_wire part output)) bits ++ output_drivers part (output + 1) more
+-- a bit of what the module names: of which name, how many bits that has, and which bit it is
+pub record NamedBit : Type 0 where
+  pub name : List ℕ
+  pub width : ℕ
+  pub place : ℕ
 
-abbrev pub part_drivers : ℕ → List PartUse → List (ℕ × List ℕ)
-part_drivers part [] = []
-part_drivers part (p ∷ more) = output_drivers part 0 p.outputs ++ part_drivers (part + 1) more
+-- the bit that a driver is: of an output's wire, of an input port, or the clock
+abbrev pub bit_of : Netlist → Driver → NamedBit
+bit_of n (Part part output bit) = record { name = output_wire part output; width = width_in (slice_get n.parts part) output; place = bit }
+  where
+    width_in : Option PartUse → ℕ → ℕ
+    width_in None output = 0
+    width_in (Some p) output = output_width p.cell output
+bit_of n (Pin pin bit) = in_pin (slice_get n.pins pin) bit
+  where
+    in_pin : Option PinUse → ℕ → NamedBit
+    in_pin None bit = record { name = []; width = 0; place = bit }
+    in_pin (Some p) bit = record { name = input_name p; width = length p.bits; place = bit }
+bit_of n (Clock clock) = record { name = codes "clk"; width = 1; place = 0 }
 
-abbrev pub drivers : Netlist → List (ℕ × List ℕ)
-drivers n = part_drivers 0 n.parts ++ flat_map (λ p. map (λ net. (net, input_name p)) p.bits) (input_pins n)
+-- the bit that a net carries: that of its first driver
+abbrev pub bit_on : Netlist → ℕ → NamedBit
+bit_on n net = unwrap_or (option_map (bit_of n) (first_driver n net)) (record { name = []; width = 0; place = 0 })
 
--- the name of the first of these drivers that drives a net
-abbrev pub driver_name : List (ℕ × List ℕ) → ℕ → List ℕ
-driver_name drivers net = unwrap_or (option_map (λ (d : ℕ × List ℕ). d.1) (find (λ (d : ℕ × List ℕ). d.0 == net) drivers)) []
+-- bits of one name in a row, from a high one down to a low one
+pub record Run : Type 0 where
+  pub name : List ℕ
+  pub width : ℕ
+  pub high : ℕ
+  pub low : ℕ
 
--- what some net bits say: the name of what drives their one bit
-abbrev pub bits_value : List (ℕ × List ℕ) → List ℕ → Expr
-bits_value drivers bits = expr.Whole (driver_name drivers (slice_index bits 0))
+abbrev pub run_of : NamedBit → Run
+run_of b = record { name = b.name; width = b.width; high = b.place; low = b.place }
+
+-- the bit is the next one above the run
+abbrev pub goes_on : Run → NamedBit → Bool
+goes_on r b = bytes_eq r.name b.name && r.high + 1 == b.place
+
+-- a bit on top of some runs, of which the highest stands first
+abbrev pub on_top : List Run → NamedBit → List Run
+on_top [] b = run_of b ∷ []
+on_top (r ∷ lower) b =
+    if goes_on r b then record { name = r.name; width = r.width; high = b.place; low = r.low } ∷ lower else run_of b ∷ r ∷ lower
+
+-- the runs of some bits, which are given from bit 0 up: the highest run first, each as long as it can be
+abbrev pub runs : List NamedBit → List Run
+runs bits = fold on_top [] bits
+
+-- a whole name, one bit of it, or some
+abbrev pub run_expr : Run → Expr
+run_expr r =
+    if r.high + 1 == r.low + r.width then expr.Whole r.name else (if r.high == r.low then expr.Place r.name r.low else expr.Part r.name r.high r.low)
+
+-- two or more stand in braces
+abbrev pub in_braces : List Expr → Expr
+in_braces [] = expr.Whole []
+in_braces (e ∷ []) = e
+in_braces (e ∷ other ∷ more) = expr.Join e other more
+
+-- what some net bits say: the runs of what drives them, from the highest down
+abbrev pub bits_value : Netlist → List ℕ → Expr
+bits_value n bits = in_braces (map run_expr (runs (map (bit_on n) bits)))
+
+-- the range of a name of so many bits
+abbrev pub range_of : ℕ → Option ℕ
+range_of width = if width == 1 then None else Some (width - 1)
 
 -- the attached inputs of a part, with their places
 abbrev pub attached : PartUse → List (ℕ × List ℕ)
@@ -84,26 +136,25 @@ equation cell.Or inputs = joined operator.Or inputs
 
 abbrev pub part_decls : ℕ × PartUse → List Decl
 part_decls p =
-    map (λ (i : ℕ × List ℕ). decl.Wire None (input_wire p.0 i.0)) (attached p.1)
-    ++ map (λ (o : ℕ × List ℕ). decl.Wire None (output_wire p.0 o.0)) (numbered p.1.outputs)
+    map (λ (i : ℕ × List ℕ). decl.Wire (range_of (input_width p.1.cell i.0)) (input_wire p.0 i.0)) (attached p.1)
+    ++ map (λ (o : ℕ × List ℕ). decl.Wire (range_of (output_width p.1.cell o.0)) (output_wire p.0 o.0)) (numbered p.1.outputs)
 
 -- a part's inputs take what drives them, and its output what the gate says of them
-abbrev pub part_assigns : List (ℕ × List ℕ) → ℕ × PartUse → List Assign
-part_assigns drivers p =
-    map (λ (i : ℕ × List ℕ). record { name = input_wire p.0 i.0; value = bits_value drivers i.1 }) (attached p.1)
+abbrev pub part_assigns : Netlist → ℕ × PartUse → List Assign
+part_assigns n p =
+    map (λ (i : ℕ × List ℕ). record { name = input_wire p.0 i.0; value = bits_value n i.1 }) (attached p.1)
     ++ record { name = output_wire p.0 0; value = equation p.1.cell (map (λ (i : ℕ × List ℕ). expr.Whole (input_wire p.0 i.0)) (attached p.1)) } ∷ []
 
 abbrev pub module_ports : Netlist → List Port
 module_ports n =
-    map (λ p. record { direction = Input; range = None; name = input_name p }) (input_pins n)
-    ++ map (λ p. record { direction = Output; range = None; name = output_name p }) (output_pins n)
+    map (λ p. record { direction = Input; range = range_of (length p.bits); name = input_name p }) (input_pins n)
+    ++ map (λ p. record { direction = Output; range = range_of (length p.bits); name = output_name p }) (output_pins n)
 
 abbrev pub module_assigns : Netlist → List Assign
 module_assigns n =
-    flat_map (part_assigns (drivers n)) (numbered n.parts)
-    ++ map (λ p. record { name = output_name p; value = bits_value (drivers n) p.bits }) (output_pins n)
+    flat_map (part_assigns n) (numbered n.parts) ++ map (λ p. record { name = output_name p; value = bits_value n p.bits }) (output_pins n)
 
--- the module of a netlist whose ports have one bit each
+-- the module of a netlist without clocks
 abbrev pub module_of : Netlist → Module
 module_of n = record {
   name = codes "c_" ++ name_of_label n.circuit;

@@ -12,16 +12,44 @@ use Rattle.lg_netlist.specs.declared.cell.Loose.TheVariants as loose
 use Rattle.lg_netlist.specs.declared.netlist.Cell.{Cell}
 use Rattle.lg_netlist.specs.declared.netlist.Cell.TheVariants.{Not, And, Or}
 
+-- what a part keeps from one row to the next: some words, and none so far
+abbrev pub State : Type 0
+State = List (List Bit)
+
+-- how many bits an input port of a cell has
+abbrev pub input_width : Cell → ℕ → ℕ
+input_width Not input = 1
+input_width And input = 1
+input_width Or input = 1
+
+-- how many bits an output port has
+abbrev pub output_width : Cell → ℕ → ℕ
+output_width Not output = 1
+output_width And output = 1
+output_width Or output = 1
+
 -- the word of an input that only one is asked of: unknown where nothing is attached
 abbrev pub only_word : ℕ → List (Option (List Bit)) → List Bit
 only_word width (Some word ∷ []) = word
 only_word width _ = replicate width Unknown
 
--- the word that a cell of this width answers to the words of its inputs; None is an unattached input
-abbrev pub cell_word : Cell → ℕ → List (Option (List Bit)) → List Bit
-cell_word Not width inputs = not_word (only_word width inputs)
-cell_word And width inputs = gate_word kind.And width inputs false
-cell_word Or width inputs = gate_word kind.Or width inputs false
+-- the word at an output of a cell, by its state and the words of its inputs; None is an unattached input
+abbrev pub cell_word : Cell → State → List (Option (List Bit)) → ℕ → List Bit
+cell_word Not state inputs output = not_word (only_word (input_width Not 0) inputs)
+cell_word And state inputs output = gate_word kind.And (output_width And output) inputs false
+cell_word Or state inputs output = gate_word kind.Or (output_width Or output) inputs false
+
+-- the state of a cell at the start
+abbrev pub start_state : Cell → State
+start_state Not = []
+start_state And = []
+start_state Or = []
+
+-- the state after the words of the inputs went from some to others: a gate keeps nothing
+abbrev pub cell_step : Cell → State → List (Option (List Bit)) → List (Option (List Bit)) → State
+cell_step Not state before now = state
+cell_step And state before now = state
+cell_step Or state before now = state
 
 -- how many instants after its inputs a cell shows its output
 abbrev pub delay_of : Cell → ℕ

@@ -1,5 +1,5 @@
 -- What drives the nets of a netlist. Source: the Logisim-evolution user guide, Wire values.
-use Rattle.std.specs.Prelude.{ℕ, ◌<◌, ◌==◌, List, [], ◌++◌, length, map, filter, if◌then◌else◌}
+use Rattle.std.specs.Prelude.{ℕ, ◌<◌, ◌==◌, List, [], ◌++◌, length, map, filter, Option, slice_get, if◌then◌else◌}
 use Rattle.std.specs.List.{flat_map, enumerate_from}
 use Rattle.lg_netlist.specs.declared.drivers.Driver.{Driver}
 use Rattle.lg_netlist.specs.declared.drivers.Driver.TheVariants.{Part, Pin, Clock}
@@ -38,6 +38,10 @@ on_net net all = map (λ (d : ℕ × Driver). d.1) (filter (λ (d : ℕ × Drive
 -- what drives a net
 abbrev pub drivers : Netlist → ℕ → List Driver
 drivers n net = on_net net (all_drivers n)
+
+-- the first driver of a net, where it has one
+abbrev pub first_driver : Netlist → ℕ → Option Driver
+first_driver n net = slice_get (drivers n net) 0
 
 -- the netlist has such a driver
 abbrev pub IsDriver : Netlist → Driver → Type 0

@@ -1,11 +1,12 @@
 -- What every netlist keeps: names that a module can spell, nets that exist, and ports that fit their cells.
-use Rattle.std.specs.Prelude.{◌≡◌, ◌<◌, ◌≤◌, ◌^◌, ℕ, nat_le, Bool, true, ◌&&◌, IsTrue, List, map, length, slice_get, Option, IfSome, All}
+use Rattle.std.specs.Prelude.{◌≡◌, ◌<◌, ◌≤◌, ◌^◌, ◌==◌, ℕ, nat_le, Bool, true, ◌&&◌, ◌||◌, IsTrue, List, map, length, slice_get, slice_index_or, [], Option, IfSome, All}
 use Rattle.std.specs.List.{list_all, IsDistinct}
 use Rattle.std.specs.Str.{bytes_eq}
 use Rattle.lg_netlist.specs.declared.netlist.Cell.{Cell}
 use Rattle.lg_netlist.specs.declared.netlist.Cell.TheVariants.{Not, And, Or}
 use Rattle.lg_netlist.specs.declared.netlist.PartUse.{PartUse}
 use Rattle.lg_netlist.specs.declared.netlist.PinUse.{PinUse}
+use Rattle.lg_netlist.specs.Cell.{input_width, output_width}
 use Rattle.lg_text.specs.NameByte.{is_name_byte}
 
 -- 1 to 290 ASCII letters, digits and `_`
@@ -30,10 +31,18 @@ TakesInputs cell count = (least_inputs cell ≤ count) × (count ≤ most_inputs
 abbrev pub AreNets : ℕ → List ℕ → Type 0
 AreNets nets bits = All (λ net. net < nets) bits
 
--- a port of one bit: on one of the nets, or on none where nothing is attached
+-- the bits of a port: as many as a word has at most, on nets that exist, and none where nothing is attached
 pub record IsPort (nets : ℕ) (bits : List ℕ) : Type 0 where
-  pub one_bit : length bits ≤ 1
+  pub few_bits : length bits ≤ 64
   pub on_nets : AreNets nets bits
+
+-- nothing is attached to a port, or it has so many bits
+abbrev pub has_width : ℕ → List ℕ → Bool
+has_width width bits = length bits == 0 || length bits == width
+
+-- each of these ports has its width
+abbrev pub HaveWidths : (ℕ → ℕ) → List (List ℕ) → Type 0
+HaveWidths width ports = (port : ℕ) → port < length ports → IsTrue (has_width (width port) (slice_index_or ports port []))
 
 -- a part with the ports of its cell
 pub record IsFittingPart (nets : ℕ) (p : PartUse) : Type 0 where
@@ -41,18 +50,21 @@ pub record IsFittingPart (nets : ℕ) (p : PartUse) : Type 0 where
   pub gives : length p.outputs ≡ 1
   pub inputs : All (IsPort nets) p.inputs
   pub outputs : All (IsPort nets) p.outputs
+  pub input_widths : HaveWidths (input_width p.cell) p.inputs
+  pub output_widths : HaveWidths (output_width p.cell) p.outputs
 
--- a pin of one bit with a name that a module can spell
+-- a pin of 1 to 64 bits with a name that a module can spell
 pub record IsFittingPin (nets : ℕ) (p : PinUse) : Type 0 where
   pub named : IsTrue (is_pin_name p.name)
-  pub one_bit : length p.bits ≡ 1
+  pub some_bits : 1 ≤ length p.bits
+  pub few_bits : length p.bits ≤ 64
   pub on_nets : AreNets nets p.bits
 
--- an input pin stands at this place among the pins
+-- an input pin of one bit stands at this place among the pins
 abbrev pub IsInputAt : List PinUse → ℕ → Type 0
-IsInputAt pins place = IfSome (slice_get pins place) (λ pin. pin.input ≡ true)
+IsInputAt pins place = IfSome (slice_get pins place) (λ pin. (pin.input ≡ true) × (length pin.bits ≡ 1))
 
--- parts, pins and clocks are counted in 32 bits, parts and pins fit, clocks are on nets, names of pins differ, and the clock pin is an input pin
+-- parts, pins and clocks are counted in 32 bits, parts and pins fit, clocks are on nets, names of pins differ, and the clock pin is an input pin of one bit
 pub record IsValid (parts : List PartUse) (pins : List PinUse) (clocks : List (ℕ × List ℕ)) (nets : ℕ) (clock_pin : Option ℕ) : Type 0 where
   pub few_parts : length parts < 2 ^ 32
   pub few_pins : length pins < 2 ^ 32

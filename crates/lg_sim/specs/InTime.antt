@@ -1,16 +1,17 @@
 -- A netlist in time: parts with the delays and the answers of their cells.
 -- Source: the library reference of Logisim-evolution, Gates, for what they answer; delays are this project's choice.
-use Rattle.std.specs.Prelude.{ℕ, List, [], ◌∷◌, ◌++◌, map, Option, Some, None, slice_get}
+use Rattle.std.specs.Prelude.{ℕ, List, [], ◌∷◌, map, Option, Some, None}
 use Rattle.lg_timing.specs.Circuit.{Word, Port, Part, Circuit}
 use Rattle.lg_netlist.specs.declared.netlist.PartUse.{PartUse}
 use Rattle.lg_netlist.specs.declared.netlist.PinUse.{PinUse}
 use Rattle.lg_netlist.specs.declared.netlist.Netlist.{Netlist}
-use Rattle.lg_netlist.specs.Cell.{cell_word, delay_of}
-use Rattle.lg_netlist.specs.Static.{input_pins, output_pins}
+use Rattle.lg_netlist.specs.Cell.{input_width, output_width, cell_word, delay_of, start_state, cell_step}
+use Rattle.lg_netlist.specs.Drivers.{numbered}
+use Rattle.lg_netlist.specs.Static.{input_pins, output_pins, clock_nets}
 
--- a port of one bit, which is all that there is so far
-abbrev pub port_of : List ℕ → Port
-port_of bits = record { nets = bits; width = 1 }
+-- numbered ports with the widths of those numbers
+abbrev pub ports_of : (ℕ → ℕ) → List (ℕ × List ℕ) → List Port
+ports_of width ports = map (λ (p : ℕ × List ℕ). record { nets = p.1; width = width p.0 }) ports
 
 -- the words of attached inputs, and none of the others
 abbrev pub given : List (List ℕ) → List Word → List (Option Word)
@@ -18,25 +19,16 @@ given ([] ∷ ports) (word ∷ words) = None ∷ given ports words
 given ((net ∷ bits) ∷ ports) (word ∷ words) = Some word ∷ given ports words
 given _ _ = []
 
--- a gate has no state, and answers its word on each output
+-- a part starts, steps and answers as its cell does; a port has its width where nothing is attached, too
 abbrev pub part_of : PartUse → Part
 part_of p = record {
   delay = delay_of p.cell;
-  inputs = map port_of p.inputs;
-  outputs = map port_of p.outputs;
-  start = [];
-  step = λ state before now. [];
-  out = λ state words. map (λ (bits : List ℕ). cell_word p.cell 1 (given p.inputs words)) p.outputs;
+  inputs = ports_of (input_width p.cell) (numbered p.inputs);
+  outputs = ports_of (output_width p.cell) (numbered p.outputs);
+  start = start_state p.cell;
+  step = λ state before now. cell_step p.cell state (given p.inputs before) (given p.inputs now);
+  out = λ state words. map (λ (o : ℕ × List ℕ). cell_word p.cell state (given p.inputs words) o.0) (numbered p.outputs);
 }
-
--- the nets of the pin at a place among these, if there is one
-abbrev pub bits_at : List PinUse → Option ℕ → List ℕ
-bits_at pins None = []
-bits_at pins (Some place) = bits_of (slice_get pins place)
-  where
-    bits_of : Option PinUse → List ℕ
-    bits_of None = []
-    bits_of (Some pin) = pin.bits
 
 -- the circuit that a netlist is; pull resistors are still to come
 abbrev pub circuit_of : Netlist → Circuit
@@ -45,5 +37,5 @@ circuit_of n = record {
   pulls = [];
   pins = map (λ (p : PinUse). p.bits) (input_pins n);
   outputs = map (λ (p : PinUse). p.bits) (output_pins n);
-  clocks = map (λ (c : ℕ × List ℕ). c.0) n.clocks ++ bits_at n.pins n.clock_pin;
+  clocks = clock_nets n;
 }
