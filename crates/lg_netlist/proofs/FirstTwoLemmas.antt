@@ -1,13 +1,16 @@
 -- The first two drivers of each net, driver by driver.
 use Rattle.std.proofs.Common.{◌≡◌, ℕ, ◌+◌, ◌<◌, ◌≤◌, Bool, true, false, List, [], ◌∷◌, ◌++◌, length, get_or, set, refl, sym, subst, ap, ◌∙◌, arith, cond, ◌⊎◌, inl, inr, Option, None, Some}
-use Rattle.std.specs.Prelude.{All, ◌==◌, map, filter, replicate}
+use Rattle.std.specs.Prelude.{All, ◌==◌, map, filter, replicate, slice_get}
+use Rattle.std.specs.List.{range_with_len}
 use Rattle.std.proofs.lemmas.Bool.{cases_eq, eq-eqb, ne_eqb, cond-true, cond-false}
-use Rattle.std.proofs.lemmas.List.{map-append, append-nil, get_or-set_same, get_or-set_other, get_or-replicate, length-set, length-replicate}
+use Rattle.std.proofs.lemmas.List.{map-append, append-nil, get_or-set_same, get_or-set_other, get_or-replicate, get_or-map, length-set, length-map, length-replicate}
 use Rattle.std.proofs.lemmas.List.Elements.{filter-append}
+use Rattle.std.proofs.lemmas.List.FromFn.{fill_by_all}
 use Rattle.lg_netlist.specs.declared.drivers.Driver.{Driver}
 use Rattle.lg_netlist.specs.declared.first_two.FirstTwo.{FirstTwo}
-use Rattle.lg_netlist.specs.Drivers.{on_net}
-use Rattle.lg_netlist.specs.FirstTwo.{no_driver, two_of, with_driver, AreTwoOf}
+use Rattle.lg_netlist.specs.declared.netlist.Netlist.{Netlist}
+use Rattle.lg_netlist.specs.Drivers.{on_net, drivers, first_driver}
+use Rattle.lg_netlist.specs.FirstTwo.{no_driver, two_of, with_driver, AreTwoOf, AreFirstTwo}
 
 on_net-push : (net : ℕ) (all : List (ℕ × Driver)) (d : ℕ × Driver) → on_net net (all ++ d ∷ []) ≡ on_net net all ++ on_net net (d ∷ [])
 on_net-push net all d =
@@ -52,3 +55,19 @@ AreTwoOf-more nets all twos net d less t =
     by_case other inside (inr ne) =
         get_or-set_other twos net other (with_driver (get_or twos net no_driver) d) no_driver ne
         ∙ (t.two_each other inside ∙ sym (ap two_of (on_net-other other all net d (λ e. ne (sym e)))))
+
+first_of_two : (ds : List Driver) → (two_of ds).first ≡ slice_get ds 0
+first_of_two [] = refl
+first_of_two (a ∷ []) = refl
+first_of_two (a ∷ b ∷ more) = refl
+
+-- the first of each two is the first driver of each net
+pub first_drivers_are : (n : Netlist) (twos : List FirstTwo) → AreFirstTwo n twos → map (λ (two : FirstTwo). two.first) twos ≡ map (first_driver n) (range_with_len 0 n.nets)
+first_drivers_are n twos t =
+    fill_by_all (first_driver n) (map (λ (two : FirstTwo). two.first) twos) n.nets None (length-map twos (λ (two : FirstTwo). two.first) ∙ t.one_each) at
+  where
+    at : (net : ℕ) → net < n.nets → get_or (map (λ (two : FirstTwo). two.first) twos) net None ≡ first_driver n net
+    at net less =
+        let each = t.one_each in
+        get_or-map (λ (two : FirstTwo). two.first) twos net no_driver None (omega arith)
+        ∙ (ap (λ (two : FirstTwo). two.first) (t.two_each net less) ∙ first_of_two (drivers n net))

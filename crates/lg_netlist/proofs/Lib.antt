@@ -8,6 +8,7 @@ pub mod PinLemmas
 pub mod SomeNumbers
 pub mod SomeNames
 pub mod DriverLemmas
+pub mod WidthLemmas
 pub mod FirstTwoLemmas
 pub mod AcceptanceLemmas
 pub mod OutputLemmas

@@ -1,10 +1,11 @@
 -- One-gate circuits: each gate reads input pins alone, so that no chain has two gates.
 -- Source: the Logisim-evolution user guide, Wire values (drivers of a net).
-use Rattle.std.specs.Prelude.{ℕ, ◌==◌, Bool, true, false, not, ◌&&◌, ◌||◌, List, [], ◌∷◌, ◌++◌, length, filter, is_none}
+use Rattle.std.specs.Prelude.{ℕ, ◌==◌, Bool, true, false, not, ◌&&◌, ◌||◌, List, [], ◌∷◌, ◌++◌, filter}
 use Rattle.std.specs.List.{list_all, list_any, flat_map}
 use Rattle.lg_netlist.specs.declared.netlist.PartUse.{PartUse}
 use Rattle.lg_netlist.specs.declared.netlist.PinUse.{PinUse}
 use Rattle.lg_netlist.specs.declared.netlist.Netlist.{Netlist}
+use Rattle.lg_netlist.specs.Static.{has_no_clock}
 
 -- the nets that parts drive: one for each bit of an output
 abbrev pub driven_by_parts : List PartUse → List ℕ
@@ -42,9 +43,6 @@ gates_read_pins n = list_all (λ p. list_all (is_on (driven_by_pins n.pins)) p.i
 -- each output pin is joined to a driver
 abbrev pub outputs_are_driven : Netlist → Bool
 outputs_are_driven n = list_all (λ p. p.input || is_on (driven n) p.bits) n.pins
-
-abbrev pub has_no_clock : Netlist → Bool
-has_no_clock n = length n.clocks == 0 && is_none n.clock_pin
 
 abbrev pub is_one_gate : Netlist → Bool
 is_one_gate n = has_no_clock n && has_single_drivers n && gates_read_pins n && outputs_are_driven n

@@ -1,6 +1,8 @@
 //! The first two drivers of each net.
 
-ghost use Rattle.std.specs.Prelude.{◌≡◌, ◌<◌, vec_len, slice_set, slice_index_or, IfOk};
+ghost use Rattle.std.specs.Prelude.{◌≡◌, ◌<◌, vec_len, map, slice_set, slice_index_or, IfOk};
+ghost use Rattle.std.specs.List.{range_with_len};
+ghost use Rattle.lg_netlist.specs.Drivers.{first_driver};
 ghost use Rattle.lg_netlist.specs.FirstTwo.{AreFirstTwo, no_driver, with_driver};
 
 use crate::drivers::Driver;
@@ -27,6 +29,20 @@ pub fn first_two(alloc: Global, netlist: &Netlist) -> Result<Vec<FirstTwo>, Allo
         note(&mut twos, *net as usize, *driver);
     }
     Ok(twos)
+}
+
+impl Netlist {
+    /// The first driver of each net, net by net, where it has one.
+    pub fn first_drivers(&self, alloc: Global) -> Result<Vec<Option<Driver>>, AllocError>
+        ensures { IfOk result (λ found. found.items ≡ map (first_driver self.now) (range_with_len 0 self.now.nets)) }
+    {
+        let twos = first_two(alloc, self)?;
+        let mut found = Vec::with_capacity(alloc, twos.len())?;
+        for two in &twos {
+            found.push(two.first)?;
+        }
+        Ok(found)
+    }
 }
 
 fn note(twos: &mut Vec<FirstTwo>, net: usize, driver: Driver)

@@ -36,7 +36,7 @@ pub struct PinUse {
 }
 
 /// The parts, pins and clocks of a circuit. Nets are numbered from 0, and all that is named here is among them; ports fit
-/// their cells, pins have names that a module can spell and that differ, and the clock pin is an input pin.
+/// their cells, pins have names that a module can spell and that differ, and the clock pin is an input pin of one bit.
 #[derive(Debug, Drop)]
 pub struct Netlist {
     /// The circuit's name, as it stands.

@@ -1,6 +1,6 @@
 //! Small netlists for tests.
 
-ghost use Rattle.std.specs.Prelude.{◌≡◌, ◌<◌, ◌^◌, ℕ, List, length, map, All, IfOk, IsTrue};
+ghost use Rattle.std.specs.Prelude.{◌≡◌, ◌<◌, ◌≤◌, ◌^◌, ℕ, List, length, map, All, IfOk, IsTrue};
 ghost use Rattle.std.specs.List.{IsDistinct};
 ghost use Rattle.std.specs.Str.{bytes_eq};
 ghost use Rattle.lg_netlist.specs.Valid.{is_pin_name, TakesInputs, IsPort, IsFittingPart, IsFittingPin};
@@ -100,6 +100,7 @@ fn ports(
 ) -> Result<Items<Items<u32>>, AllocError>
     ensures one_each { IfOk result (λ ports. length ports ≡ length nets.now) }
     ensures fit { IfOk result (λ ports. All (IsPort 8) ports) }
+    ensures narrow { IfOk result (λ ports. All (λ bits. length bits ≤ 1) ports) }
 {
     let mut ports = Items::new(alloc);
     for net in nets {
@@ -109,7 +110,8 @@ fn ports(
 }
 
 fn port(rt: &impl Abort, alloc: Global, net: Option<u32>) -> Result<Items<u32>, AllocError>
-    ensures { IfOk result (λ bits. IsPort 8 bits) }
+    ensures fits { IfOk result (λ bits. IsPort 8 bits) }
+    ensures narrow { IfOk result (λ bits. length bits ≤ 1) }
 {
     match net {
         Some(net) => {
