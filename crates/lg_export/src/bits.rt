@@ -1,153 +1,162 @@
-//! What drives each net, by its name in the module.
+//! What net bits say: runs of bits of what drives them.
 
-ghost use Rattle.std.specs.Prelude.{◌≡◌, ◌<◌, ◌==◌, ◌++◌, length, map, find, slice_get, All, IfOk, OnOk};
-ghost use Rattle.lg_netlist.specs.Static.{data_pins};
-ghost use Rattle.lg_export.specs.Layout.{input_name, output_wire, output_drivers, drivers, driver_name, bits_value};
-ghost use Rattle.lg_export.specs.Places.{ArePlaces, noted};
-ghost use Rattle.lg_export.specs.Readable.{IsNamed, IsDriven, IsReadable};
+ghost use Rattle.std.specs.Prelude.{◌≡◌, ◌<◌, false, map, reverse, length, IfOk};
+ghost use Rattle.lg_netlist.specs.Acceptance.{is_undriven};
+ghost use Rattle.lg_netlist.specs.Drivers.{IsDriver};
+ghost use Rattle.lg_export.specs.Layout.{bit_of, bit_on, goes_on, on_top, run_expr, in_braces, bits_value};
+ghost use Rattle.lg_export.specs.Readable.{IsReadable};
+ghost use Rattle.lg_export.specs.Stack.{KnowsDrivers, as_run, as_bit, stack};
 
-use crate::names::{copy_of, input_name, output_wire};
-use lg_netlist::{Netlist, PinUse};
+use crate::names::{clock_name, input_name, output_wire};
+use lg_netlist::{Driver, Netlist};
 use lg_verilog::{Expr, Name};
-use sqlite_items::Items;
+use sqlite_items::{Boxed, Items};
 use std::alloc::{AllocError, Global};
-use std::marker::Model;
 
-// A net, and the name of what drives it.
-type Driver = (u32, Name);
-
-// What drives each net: the outputs of parts, then the input pins. Contracts see the list of all drivers.
+/// What drives each net of a netlist.
 #[derive(Drop)]
-pub struct Drivers {
-    all: Items<Driver>,
-    // For each net, the place of its first driver.
-    first: Vec<Option<usize>>,
+pub struct Wires<'a> {
+    netlist: &'a Netlist,
+    first: Vec<Option<Driver>>,
 }
 
-impl Model for Drivers {
-    ghost use Rattle.std.specs.Prelude.{List, ℕ};
-    ghost use Rattle.lg_export.specs.Places.{ArePlaces};
-
-    ghost Value = { List (ℕ × List ℕ) };
-
-    ghost view = { λ d. d.all };
-
-    ghost invariant = { λ d. ArePlaces d.all d.first.items };
-}
-
-impl Drivers {
-    pub fn of(alloc: Global, netlist: &Netlist) -> Result<Drivers, AllocError>
-        requires named { All IsNamed (data_pins netlist.now) }
-        requires within { All (λ d. d.0 < netlist.now.nets) (drivers netlist.now) }
-        ensures { IfOk result (λ found. found ≡ drivers netlist.now) }
+impl<'a> Wires<'a> {
+    pub fn of(alloc: Global, netlist: &'a Netlist) -> Result<Wires<'a>, AllocError>
+        ensures netlist { IfOk result (λ wires. wires.netlist.now ≡ netlist.now) }
+        ensures known { IfOk result (λ wires. KnowsDrivers wires) }
     {
-        let all = all_drivers(alloc, netlist)?;
-        let first = places(alloc, all.as_slice(), netlist.nets as usize)?;
-        Ok(Drivers { all, first })
+        let first = netlist.first_drivers(alloc)?;
+        Ok(Wires { netlist, first })
     }
 
-    // What the first of some bits says: the name of what drives it.
+    // What some bits say: the runs of what drives them, from the highest down.
     pub fn bits_value(&self, alloc: Global, bits: &[u32]) -> Result<Expr, AllocError>
-        requires { IsReadable self.now bits.now }
-        ensures { IfOk result (λ value. value ≡ bits_value self.now bits.now) }
+        requires known { KnowsDrivers self.now }
+        requires readable { IsReadable self.now.netlist.now bits.now }
+        ensures { IfOk result (λ value. value ≡ bits_value self.now.netlist.now bits.now) }
     {
-        Ok(Expr::Whole(self.driver_name(alloc, bits[0])?))
+        let mut top = self.run_on(alloc, bits[0])?;
+        let mut lower = Vec::new(alloc);
+        for net in &bits[1..] {
+            let next = self.run_on(alloc, *net)?;
+            top = on_top(&mut lower, top, next)?;
+        }
+        in_braces(alloc, top, lower)
     }
 
-    fn driver_name(&self, alloc: Global, net: u32) -> Result<Name, AllocError>
-        requires { IsDriven self.now net }
-        ensures { IfOk result (λ name. name ≡ driver_name self.now net) }
-    {
-        let (_, name) = &self.all.as_slice()[self.place_of(net)];
-        copy_of(alloc, name)
-    }
-
-    // The place of a net's first driver.
-    fn place_of(&self, net: u32) -> usize
-        requires { IsDriven self.now net }
-        ensures within { result < length self.now }
-        ensures first { slice_get self.now result ≡ find (λ d. d.0 == net) self.now }
+    // The bit on a net, as a run of one.
+    fn run_on(&self, alloc: Global, net: u32) -> Result<Run, AllocError>
+        requires known { KnowsDrivers self.now }
+        requires within { net < self.now.netlist.now.nets }
+        requires driven { is_undriven self.now.netlist.now net ≡ false }
+        ensures { IfOk result (λ run. (as_bit run ≡ bit_on self.now.netlist.now net) × (run.low ≡ run.high)) }
     {
         match self.first[net as usize] {
-            Some(place) => place,
+            Some(driver) => run_of(alloc, self.netlist, driver),
             None => unreachable!(),
         }
     }
 }
 
-// For each net the place of its first driver.
-fn places(alloc: Global, drivers: &[Driver], nets: usize) -> Result<Vec<Option<usize>>, AllocError>
-    requires { All (λ d. d.0 < nets) drivers.now }
-    ensures { IfOk result (λ first. ArePlaces drivers.now first.items) }
-{
-    let mut first = vec![in alloc; None; nets]?;
-    for (place, (net, _)) in drivers.iter().enumerate() {
-        note(&mut first, *net as usize, place);
-    }
-    Ok(first)
+// Bits of one name in a row, from a high one down to a low one.
+#[derive(Drop)]
+struct Run {
+    name: Name,
+    width: u32,
+    high: u32,
+    low: u32,
 }
 
-// A net's first place stays.
-fn note(first: &mut [Option<usize>], net: usize, place: usize)
-    requires { net < length first.old }
-    ensures { first.new ≡ noted first.old net place }
-{
-    if first[net].is_none() {
-        first[net] = Some(place);
+impl Run {
+    // Whether a run of one bit goes on with this run.
+    fn goes_on(&self, next: &Run) -> bool
+        ensures { result ≡ goes_on (as_run self.now) (as_bit next.now) }
+    {
+        self.name.as_str() == next.name.as_str() && u64::from(self.high) + 1 == u64::from(next.high)
+    }
+
+    fn into_expr(self) -> Expr
+        ensures { result ≡ run_expr (as_run self) }
+    {
+        if u64::from(self.high) + 1 == u64::from(self.low) + u64::from(self.width) {
+            Expr::Whole(self.name)
+        } else if self.high == self.low {
+            Expr::Place(self.name, u128::from(self.low))
+        } else {
+            Expr::Part(self.name, u128::from(self.high), u128::from(self.low))
+        }
     }
 }
 
-// The outputs of parts, then the input pins.
-fn all_drivers(alloc: Global, netlist: &Netlist) -> Result<Items<Driver>, AllocError>
-    requires { All IsNamed (data_pins netlist.now) }
-    ensures { IfOk result (λ found. found ≡ drivers netlist.now) }
+// The bit that a driver is.
+fn run_of(alloc: Global, netlist: &Netlist, driver: Driver) -> Result<Run, AllocError>
+    requires { IsDriver netlist.now driver }
+    ensures { IfOk result (λ run. (as_bit run ≡ bit_of netlist.now driver) × (run.low ≡ run.high)) }
 {
+    match driver {
+        Driver::Part { part, output, bit } => {
+            let used = &netlist.parts.as_slice()[part as usize];
+            Ok(Run {
+                name: output_wire(alloc, part as usize, output as usize)?,
+                width: used.cell.output_width(output),
+                high: bit,
+                low: bit,
+            })
+        }
+        Driver::Pin { pin, bit } => {
+            let used = &netlist.pins.as_slice()[pin as usize];
+            Ok(Run {
+                name: input_name(alloc, used)?,
+                width: used.bits.len() as u32,
+                high: bit,
+                low: bit,
+            })
+        }
+        Driver::Clock { .. } => Ok(Run {
+            name: clock_name(alloc)?,
+            width: 1,
+            high: 0,
+            low: 0,
+        }),
+    }
+}
+
+// The highest of some runs once a bit, a run of one, is on top of them.
+fn on_top(lower: &mut Vec<Run>, mut top: Run, next: Run) -> Result<Run, AllocError>
+    requires { next.low ≡ next.high }
+    ensures { IfOk result (λ run. stack run lower.new.items ≡ on_top (stack top lower.old.items) (as_bit next)) }
+{
+    if top.goes_on(&next) {
+        top.high = next.high;
+        return Ok(top);
+    }
+    lower.push(top)?;
+    Ok(next)
+}
+
+// Two or more runs stand in braces.
+fn in_braces(alloc: Global, top: Run, mut lower: Vec<Run>) -> Result<Expr, AllocError>
+    ensures { IfOk result (λ value. value ≡ in_braces (map run_expr (stack top lower.items))) }
+{
+    let first = top.into_expr();
+    match lower.pop() {
+        None => Ok(first),
+        Some(second) => {
+            let first = Boxed::new(alloc, first)?;
+            let second = Boxed::new(alloc, second.into_expr())?;
+            let more = from_the_last(alloc, lower)?;
+            Ok(Expr::Join(first, second, more))
+        }
+    }
+}
+
+fn from_the_last(alloc: Global, mut runs: Vec<Run>) -> Result<Items<Expr>, AllocError>
+    ensures { IfOk result (λ found. found ≡ map run_expr (map as_run (reverse runs.items))) }
+{
+    runs.reverse();
     let mut found = Items::new(alloc);
-    for (part, used) in netlist.parts.as_slice().iter().enumerate() {
-        put_outputs(alloc, &mut found, part, used.outputs.as_slice())?;
-    }
-    let inputs = netlist.input_pins(alloc)?;
-    for pin in &inputs {
-        put_pin(alloc, &mut found, pin)?;
+    for run in runs {
+        found.push(run.into_expr())?;
     }
     Ok(found)
-}
-
-fn put_outputs(
-    alloc: Global,
-    found: &mut Items<Driver>,
-    part: usize,
-    outputs: &[Items<u32>],
-) -> Result<(), AllocError>
-    ensures { OnOk result (found.new ≡ found.old ++ output_drivers part 0 outputs.now) }
-{
-    for (output, bits) in outputs.iter().enumerate() {
-        put_output(alloc, found, part, output, bits.as_slice())?;
-    }
-    Ok(())
-}
-
-fn put_output(
-    alloc: Global,
-    found: &mut Items<Driver>,
-    part: usize,
-    output: usize,
-    bits: &[u32],
-) -> Result<(), AllocError>
-    ensures { OnOk result (found.new ≡ found.old ++ map (λ net. (net, output_wire part output)) bits.now) }
-{
-    for net in bits {
-        found.push((*net, output_wire(alloc, part, output)?))?;
-    }
-    Ok(())
-}
-
-fn put_pin(alloc: Global, found: &mut Items<Driver>, pin: &PinUse) -> Result<(), AllocError>
-    requires { IsNamed pin.now }
-    ensures { OnOk result (found.new ≡ found.old ++ map (λ net. (net, input_name pin.now)) pin.now.bits) }
-{
-    for net in pin.bits.as_slice() {
-        found.push((*net, input_name(alloc, pin)?))?;
-    }
-    Ok(())
 }
