@@ -10,6 +10,7 @@ use Rattle.std.proofs.lemmas.Option.{same_Some, get_or_from_slice_get, slice_get
 use Rattle.lg_netlist.specs.declared.acceptance.NotAccepted.{NotAccepted}
 use Rattle.lg_netlist.specs.declared.acceptance.NotAccepted.TheVariants as refusal
 use Rattle.lg_netlist.specs.declared.drivers.Driver.{Driver}
+use Rattle.lg_netlist.specs.declared.drivers.Driver.TheVariants.{Part, Pin, Clock}
 use Rattle.lg_netlist.specs.declared.netlist.PartUse.{PartUse}
 use Rattle.lg_netlist.specs.declared.netlist.PinUse.{PinUse}
 use Rattle.lg_netlist.specs.declared.netlist.Netlist.{Netlist}
@@ -116,6 +117,29 @@ output_net n part output bit net p bits is_part is_output is_bit =
 
 pub pin_net : (n : Netlist) (pin bit net : ℕ) (p : PinUse) → slice_get n.pins pin ≡ Some p → slice_get p.bits bit ≡ Some net → net < n.nets
 pin_net n pin bit net p is_pin is_bit = All-at (λ (net : ℕ). net < n.nets) p.bits bit net (pin_fits n pin p is_pin).on_nets is_bit
+
+pub source_net : (n : Netlist) (d : Driver) (net : ℕ) → IsSourceOf n d net → net < n.nets
+source_net n (Part part output bit) net (p, bits, is_part, is_output, is_bit) = output_net n part output bit net p bits is_part is_output is_bit
+source_net n (Pin pin bit) net (p, is_pin, input, is_bit) = pin_net n pin bit net p is_pin is_bit
+source_net n (Clock clock) net (c, is_clock, on) = subst (λ (k : ℕ). k < n.nets) on (All-at (λ (c : ℕ × List ℕ). c.0 < n.nets) n.clocks clock c n.valid.clocks_fit is_clock)
+
+-- a net's only driver, which is on it
+pub record HasDriver (n : Netlist) (net : ℕ) : Type 0 where
+  pub driver : Driver
+  pub alone : drivers n net ≡ driver ∷ []
+  pub source : IsSourceOf n driver net
+
+pub has_driver : (n : Netlist) → IsAccepted n → (net : ℕ) → is_undriven n net ≡ false → HasDriver n net
+has_driver n accepted net driven = by_drivers (drivers n net) refl
+  where
+    only : (one : (d : Driver) × (drivers n net ≡ d ∷ [])) → HasDriver n net
+    only one = record { driver = one.0; alone = one.1; source = subst (λ (ds : List Driver). All (λ d. IsSourceOf n d net) ds) one.1 (driver_is n net) 0 one.0 (omega arith) }
+
+    by_drivers : (ds : List Driver) → drivers n net ≡ ds → HasDriver n net
+    by_drivers [] e = let no : true ≡ false = sym (ap (λ (ds : List Driver). length ds == 0) e) ∙ driven in absurd (cc)
+    by_drivers (d ∷ more) e =
+        let source : IsSourceOf n d net = subst (λ (ds : List Driver). All (λ d. IsSourceOf n d net) ds) e (driver_is n net) 0 d (omega arith) in
+        only (one_driver n accepted net (source_net n d net source) driven)
 
 -- something drives each net of an attached input of a part
 pub read_is_driven : (n : Netlist) → IsAccepted n → (part input bit net : ℕ) (p : PartUse) (bits : List ℕ) → slice_get n.parts part ≡ Some p → slice_get p.inputs input ≡ Some bits → slice_get bits bit ≡ Some net
