@@ -24,3 +24,4 @@ pub mod AcceptedFacts
 pub mod Ranks
 pub mod CellFacts
 pub mod StaticRuns
+pub mod StaticLemmas
