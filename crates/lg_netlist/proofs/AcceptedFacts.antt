@@ -93,7 +93,7 @@ input_is_right n accepted part input p bits is_part is_input =
     let part_none : undriven_part n p ≡ None = All-at (λ (p : PartUse). undriven_part n p ≡ None) n.parts part p (said_of_none (undriven_part n) n.parts (none_undriven n accepted).0) is_part in
     let same : 0 + input ≡ input = omega arith in
     let input_none : undriven_input n p (input, bits) ≡ None =
-        All-at (λ (i : ℕ × List ℕ). undriven_input n p i ≡ None) (numbered p.inputs) input (input, bits) (said_of_none (undriven_input n p) (numbered p.inputs) part_none) (numbered_at 0 p.inputs input bits is_input ∙ ap (λ (i : ℕ). Some (i, bits)) same) in
+    All-at (λ (i : ℕ × List ℕ). undriven_input n p i ≡ None) (numbered p.inputs) input (input, bits) (said_of_none (undriven_input n p) (numbered p.inputs) part_none) (numbered_at 0 p.inputs input bits is_input ∙ ap (λ (i : ℕ). Some (i, bits)) same) in
     not_if (reads_undriven n p input bits) (refusal.Undriven p.name (input_name p.cell input)) input_none
 
 none_of_any : (test : ℕ → Bool) (bits : List ℕ) (bit net : ℕ) → list_any test bits ≡ false → slice_get bits bit ≡ Some net → test net ≡ false
