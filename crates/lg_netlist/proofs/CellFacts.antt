@@ -1,13 +1,13 @@
 -- What cells answer: words of their widths, by no state, and defined ones to the inputs of a part of an accepted netlist that are defined.
-use Rattle.std.proofs.Common.{◌≡◌, ℕ, zero, suc, ◌+◌, ◌<◌, ◌≤◌, Bool, true, false, cond, List, [], ◌∷◌, length, get_or, map, replicate, refl, sym, subst, ap, ◌∙◌, arith, ◌⊎◌, inl, inr, Option, None, Some}
+use Rattle.std.proofs.Common.{◌≡◌, ℕ, zero, suc, ◌<◌, ◌≤◌, Bool, true, false, List, [], ◌∷◌, length, get_or, map, refl, sym, subst, ap, ◌∙◌, arith, ◌⊎◌, inl, inr, Option, Some}
 use Rattle.std.specs.Prelude.{All, IfSome, IsTrue, is_none, ◌&&◌, ◌||◌, ◌==◌, slice_get}
 use Rattle.std.specs.List.{list_all, list_any}
 use Rattle.std.proofs.lemmas.Bool.{cases_lt, eqb-true, ne_eqb, or_cases}
-use Rattle.std.proofs.lemmas.List.{get_or_past, length-map, length-replicate}
+use Rattle.std.proofs.lemmas.List.{get_or_past, length-map}
 use Rattle.std.proofs.lemmas.List.Elements.{All-nil, All-cons}
 use Rattle.std.proofs.lemmas.Option.{slice_get_within, get_or_from_slice_get}
 use Rattle.lg_value.specs.declared.bit.Bit.{Bit}
-use Rattle.lg_value.specs.declared.bit.Bit.TheVariants.{Zero, One, Unknown}
+use Rattle.lg_value.specs.declared.bit.Bit.TheVariants.{Zero, One}
 use Rattle.lg_value.specs.Word.{IsDefined}
 use Rattle.lg_gates.specs.declared.gates.GateKind.TheVariants as kind
 use Rattle.lg_gates.specs.Gate.{HaveWidth, CarryDefined}
@@ -21,7 +21,7 @@ use Rattle.lg_netlist.specs.Acceptance.{is_loose, lacks_input, reads_undriven, I
 use Rattle.lg_netlist.specs.Cell.{State, input_width, output_width, only_word, cell_word, loose_of, reads}
 use Rattle.lg_netlist.specs.Static.{word_on, word_at, inputs_of}
 use Rattle.lg_netlist.specs.Valid.{TakesInputs, has_width, HaveWidths, IsFittingPart}
-use Rattle.lg_netlist.proofs.AcceptedFacts.{input_is_right, part_fits}
+use Rattle.lg_netlist.proofs.AcceptedFacts.{input_is_right, part_at_fits}
 
 -- cells keep nothing yet, so states do not count
 pub cell_word-state : (c : Cell) (s t : State) (inputs : List (Option (List Bit))) (output : ℕ) → cell_word c s inputs output ≡ cell_word c t inputs output
@@ -137,7 +137,7 @@ pub cell_defined : (n : Netlist) → IsAccepted n → (part : ℕ) (p : PartUse)
 cell_defined n accepted part p is_part s value output h = by_cell p.cell refl
   where
     fits : IsFittingPart n.nets p
-    fits = part_fits n part p is_part
+    fits = part_at_fits n part p is_part
 
     right : (input : ℕ) (bits : List ℕ) → slice_get p.inputs input ≡ Some bits → reads_undriven n p input bits ≡ false
     right input bits is_input = input_is_right n accepted part input p bits is_part is_input

@@ -1,6 +1,6 @@
 -- An accepted netlist without clocks has static values, defined where something drives the net, and no others there.
-use Rattle.std.proofs.Common.{◌≡◌, ℕ, zero, suc, ◌+◌, ◌<◌, ◌≤◌, Bool, true, false, cond, List, [], ◌∷◌, ◌++◌, length, get_or, map, filter, take, refl, sym, subst, ap, ◌∙◌, arith, ◌⊎◌, inl, inr, Option, None, Some}
-use Rattle.std.specs.Prelude.{All, Contains, is_none, ◌==◌, ◌&&◌, slice_get}
+use Rattle.std.proofs.Common.{◌≡◌, ℕ, zero, suc, ◌+◌, ◌<◌, ◌≤◌, Bool, true, false, List, [], ◌∷◌, ◌++◌, length, get_or, map, filter, take, refl, sym, subst, ap, ◌∙◌, arith, ◌⊎◌, inl, inr, Option, None, Some}
+use Rattle.std.specs.Prelude.{All, Contains, is_none, ◌==◌, slice_get}
 use Rattle.std.proofs.lemmas.Bool.{and_parts, eqb-true, cases_lt, cond-true, cond-false}
 use Rattle.std.proofs.lemmas.List.{get_or-map, get_or_past, nil_from_length}
 use Rattle.std.proofs.lemmas.List.Elements.{All-nil, All-cons, All-get_or}
@@ -16,13 +16,13 @@ use Rattle.lg_netlist.specs.declared.netlist.Netlist.{Netlist}
 use Rattle.lg_netlist.specs.Acceptance.{is_undriven, IsAccepted}
 use Rattle.lg_netlist.specs.Cell.{State, output_width, cell_word}
 use Rattle.lg_netlist.specs.Drivers.{drivers}
-use Rattle.lg_netlist.specs.Static.{data_pins, input_pins, has_no_clock, bits_at, clock_nets, word_on, inputs_of, state_of, Carries, AreStaticValues, AreTheStaticValues, IsDefinedRow}
-use Rattle.lg_netlist.proofs.AcceptedFacts.{HasDriver, has_driver, same_driver, source_net, read_is_driven, part_fits}
+use Rattle.lg_netlist.specs.Static.{input_pins, has_no_clock, bits_at, clock_nets, word_on, inputs_of, state_of, Carries, AreStaticValues, AreTheStaticValues, IsDefinedRow}
+use Rattle.lg_netlist.proofs.AcceptedFacts.{has_driver, same_driver, source_net, read_is_driven, part_at_fits}
 use Rattle.lg_netlist.proofs.CellFacts.{cell_word-state, port_width, cell_long, IsDefinedBit, defined_bit, AreDefinedOn, cell_defined}
 use Rattle.lg_netlist.proofs.DriverFacts.{IsSourceOf, source_drives, is_driven}
 use Rattle.lg_netlist.proofs.PinLemmas.{data_pins_from, data_pins-from}
 use Rattle.lg_netlist.proofs.Ranks.{HasRanks, ranks, none_on_cycle}
-use Rattle.lg_netlist.proofs.StaticRuns.{row_place, part_gives, given_by, stepped, stepped_by, IsRun, IsSettledBy, never_settled, reads_settled, all_settled, runs_agree}
+use Rattle.lg_netlist.proofs.StaticRuns.{row_place, part_gives, given_by, stepped, stepped_by, IsSettledBy, never_settled, reads_settled, all_settled, runs_agree}
 
 -- static values for some states are static values for all
 pub static-state : (n : Netlist) (s t : List State) (row : List (List Bit)) (value : ℕ → Bit) → AreStaticValues n s row value → AreStaticValues n t row value
@@ -39,7 +39,8 @@ none_from : {A : Type 0} (o : Option A) → is_none o ≡ true → o ≡ None
 none_from None h = refl
 none_from (Some a) h = absurd (cc)
 
-no_clocks : (n : Netlist) → has_no_clock n ≡ true → (n.clocks ≡ []) × (n.clock_pin ≡ None)
+-- there is no clock and no clock pin
+pub no_clocks : (n : Netlist) → has_no_clock n ≡ true → (n.clocks ≡ []) × (n.clock_pin ≡ None)
 no_clocks n h =
     let both = and_parts (length n.clocks == 0) (is_none n.clock_pin) h in
     (nil_from_length n.clocks (eqb-true (length n.clocks) 0 both.0), none_from n.clock_pin both.1)
@@ -54,7 +55,7 @@ all_data : (k : ℕ) (pins : List PinUse) → data_pins_from None k pins ≡ pin
 all_data k [] = refl
 all_data k (p ∷ pins) = ap (λ (ps : List PinUse). p ∷ ps) (all_data (k + 1) pins)
 
--- each input pin has a word in a row
+-- a row gives words to all input pins
 pub all_input_pins : (n : Netlist) → has_no_clock n ≡ true → input_pins n ≡ filter (λ p. p.input) n.pins
 all_input_pins n h =
     ap (filter (λ (p : PinUse). p.input)) (data_pins-from n ∙ (ap (λ (clock : Option ℕ). data_pins_from clock 0 n.pins) (no_clocks n h).1 ∙ all_data 0 n.pins))
@@ -170,7 +171,7 @@ stay_static n states row value quiet accepted fits stay = record {
         → Carries value bits (cell_word p.cell (state_of states part) (inputs_of value p) output)
     carries part p is_part output bits is_output [] e = inl e
     carries part p is_part output bits is_output (first ∷ more) e =
-        let fits = part_fits n part p is_part in
+        let fits = part_at_fits n part p is_part in
         let wide = port_width (output_width p.cell) p.outputs output 0 first bits fits.output_widths is_output (ap (λ (bs : List ℕ). slice_get bs 0) e) in
         inr
         (word_is value bits (cell_word p.cell (state_of states part) (inputs_of value p) output) (cell_long p.cell (state_of states part) value p.inputs output fits.input_widths ∙ sym wide)

@@ -1,5 +1,5 @@
 -- What drivers give nets, step after step: in an accepted netlist two runs of such steps come to the same values.
-use Rattle.std.proofs.Common.{◌≡◌, ℕ, zero, suc, ◌+◌, ◌<◌, ◌≤◌, Bool, true, false, List, [], ◌∷◌, length, get_or, map, filter, take, refl, sym, subst, ap, ◌∙◌, arith, Option, None, Some}
+use Rattle.std.proofs.Common.{◌≡◌, ℕ, zero, suc, ◌+◌, ◌<◌, false, List, [], ◌∷◌, length, get_or, map, filter, take, refl, sym, ap, ◌∙◌, arith, Option, None, Some}
 use Rattle.std.specs.Prelude.{slice_get}
 use Rattle.std.proofs.lemmas.Option.{slice_get_within}
 use Rattle.lg_value.specs.declared.bit.Bit.{Bit}
@@ -11,11 +11,11 @@ use Rattle.lg_netlist.specs.declared.netlist.PinUse.{PinUse}
 use Rattle.lg_netlist.specs.declared.netlist.Netlist.{Netlist}
 use Rattle.lg_netlist.specs.Acceptance.{is_undriven, IsAccepted}
 use Rattle.lg_netlist.specs.Cell.{State, cell_word}
-use Rattle.lg_netlist.specs.Chain.{Output, IsOutput, Follows}
+use Rattle.lg_netlist.specs.Chain.{IsOutput, Follows}
 use Rattle.lg_netlist.specs.Drivers.{drivers, first_driver}
 use Rattle.lg_netlist.specs.Graph.{all_outputs}
 use Rattle.lg_netlist.specs.Static.{word_at, inputs_of, state_of}
-use Rattle.lg_netlist.proofs.AcceptedFacts.{HasDriver, has_driver, read_is_driven}
+use Rattle.lg_netlist.proofs.AcceptedFacts.{has_driver, read_is_driven}
 use Rattle.lg_netlist.proofs.CellFacts.{reads_all}
 use Rattle.lg_netlist.proofs.DriverFacts.{Contains-at, IsSourceOf}
 use Rattle.lg_netlist.proofs.OutputLemmas.{output_listed}
