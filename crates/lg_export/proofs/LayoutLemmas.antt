@@ -1,29 +1,29 @@
--- One turn of each loop that lays out a part of the module.
-use Rattle.std.proofs.Common.{◌≡◌, ℕ, suc, ◌+◌, ◌<◌, Bool, true, false, not, cond, IsTrue, ◌↔◌, List, [], ◌∷◌, ◌++◌, length, map, filter, get_or, drop, None, refl, sym, ap, ◌∙◌, arith}
-use Rattle.std.specs.Prelude.{◌==◌}
+-- One turn of each loop that lays out a part of the module, and what is known of each pin in it.
+use Rattle.std.proofs.Common.{◌≡◌, ℕ, suc, ◌+◌, ◌<◌, Bool, true, false, not, cond, IsTrue, ◌↔◌, List, [], ◌∷◌, ◌++◌, length, filter, get_or, drop, refl, sym, ap, ◌∙◌, arith}
+use Rattle.std.specs.Prelude.{◌==◌, All}
 use Rattle.std.specs.List.{enumerate_from}
 use Rattle.std.proofs.lemmas.Bool.{eqb-true, false≢true}
 use Rattle.std.proofs.lemmas.List.{at_drop_more}
+use Rattle.std.proofs.lemmas.List.Elements.{All-nil, All-cons, All-head, All-tail, All-same, All-map, All-filter}
 use Rattle.lg_netlist.specs.declared.netlist.PinUse.{PinUse}
 use Rattle.lg_netlist.specs.declared.netlist.Netlist.{Netlist}
+use Rattle.lg_netlist.specs.Static.{data_pins, input_pins, output_pins}
+use Rattle.lg_netlist.specs.Valid.{IsFittingPin}
+use Rattle.lg_netlist.proofs.PinLemmas.{is_data, data_pins_from, data_pins-from}
 use Rattle.lg_verilog.specs.declared.module.Direction.TheVariants.{Input, Output}
 use Rattle.lg_verilog.specs.declared.module.Port.{Port}
 use Rattle.lg_verilog.specs.declared.module.Assign.{Assign}
-use Rattle.lg_export.specs.Layout.{input_name, output_name, bits_value, drivers}
-
--- what an input pin drives
-abbrev pub pin_drivers : PinUse → List (ℕ × List ℕ)
-pin_drivers p = map (λ net. (net, input_name p)) p.bits
+use Rattle.lg_export.specs.Layout.{input_name, output_name, bits_value, range_of}
 
 -- the port of an input pin and of an output pin, and an output pin's equation
 abbrev pub input_port : PinUse → Port
-input_port p = record { direction = Input; range = None; name = input_name p }
+input_port p = record { direction = Input; range = range_of (length p.bits); name = input_name p }
 
 abbrev pub output_port : PinUse → Port
-output_port p = record { direction = Output; range = None; name = output_name p }
+output_port p = record { direction = Output; range = range_of (length p.bits); name = output_name p }
 
 abbrev pub output_assign : Netlist → PinUse → Assign
-output_assign n p = record { name = output_name p; value = bits_value (drivers n) p.bits }
+output_assign n p = record { name = output_name p; value = bits_value n p.bits }
 
 -- the attached ones among some inputs, numbered from a place
 abbrev pub attached_from : ℕ → List (List ℕ) → List (ℕ × List ℕ)
@@ -44,3 +44,21 @@ pub attached-more : (inputs : List (List ℕ)) (i : ℕ) (bits : List ℕ) (b : 
     → attached_from i (drop i inputs) ≡ cond b [] ((i, bits) ∷ []) ++ attached_from (i + 1) (drop (i + 1) inputs)
 attached-more inputs i bits b less is h =
     at_drop_more (attached_from i) inputs i bits less ∙ (ap (λ (x : List ℕ). attached_from i (x ∷ drop (i + 1) inputs)) (sym is) ∙ attached_one i bits (drop (i + 1) inputs) b h)
+
+numbered_all : {A : Type 0} (P : A → Type 0) (k : ℕ) (xs : List A) → All P xs → All (λ (p : ℕ × A). P p.1) (enumerate_from k xs)
+numbered_all {A = A} P k [] all = All-nil (λ (p : ℕ × A). P p.1)
+numbered_all {A = A} P k (x ∷ xs) all =
+    All-cons (λ (p : ℕ × A). P p.1) (k, x) (enumerate_from (k + 1) xs) (All-head P x xs all) (numbered_all P (k + 1) xs (All-tail P x xs all))
+
+-- what holds of each pin holds of those that are data
+pub data_all : (P : PinUse → Type 0) (n : Netlist) → All P n.pins → All P (data_pins n)
+data_all P n all =
+    All-same P (data_pins n) (data_pins_from n.clock_pin 0 n.pins) (data_pins-from n)
+    (All-map P (λ (p : ℕ × PinUse). p.1) (filter (λ (p : ℕ × PinUse). is_data n.clock_pin p.0) (enumerate_from 0 n.pins))
+    (All-filter (λ (p : ℕ × PinUse). is_data n.clock_pin p.0) (λ (p : ℕ × PinUse). P p.1) (enumerate_from 0 n.pins) (numbered_all P 0 n.pins all)))
+
+pub inputs_fit : (n : Netlist) → All (IsFittingPin n.nets) (input_pins n)
+inputs_fit n = All-filter (λ (p : PinUse). p.input) (IsFittingPin n.nets) (data_pins n) (data_all (IsFittingPin n.nets) n n.valid.pins_fit)
+
+pub outputs_fit : (n : Netlist) → All (IsFittingPin n.nets) (output_pins n)
+outputs_fit n = All-filter (λ (p : PinUse). not p.input) (IsFittingPin n.nets) (data_pins n) (data_all (IsFittingPin n.nets) n n.valid.pins_fit)

@@ -1,4 +1,5 @@
 pub mod Layout
+pub mod Stack
 pub mod Readable
 pub mod Agreement
 pub mod InTime

@@ -1,21 +1,21 @@
 //! The module of a netlist, as a whole.
 
-ghost use Rattle.std.specs.Prelude.{◌≡◌, ◌⊎◌, All, IfOk, IfErr, IsOk, IsTrue};
+ghost use Rattle.std.specs.Prelude.{◌≡◌, ◌⊎◌, IfOk, IfErr, IsOk, IsTrue};
 ghost use Rattle.std.specs.List.{flat_map};
-ghost use Rattle.lg_netlist.specs.Static.{data_pins};
+ghost use Rattle.lg_netlist.specs.Static.{has_no_clock};
 ghost use Rattle.lg_export.specs.Layout.{numbered, part_decls, module_ports, module_assigns, module_of};
 ghost use Rattle.lg_netlist.specs.Acceptance.{IsAccepted, IsRefused};
-ghost use Rattle.lg_netlist.specs.OneGate.{has_no_clock, is_one_gate};
 ghost use Rattle.lg_netlist.specs.declared.acceptance.NotAccepted.TheVariants as refusal;
-ghost use Rattle.lg_export.specs.Readable.{IsNamed, CanBeLaidOut};
+ghost use Rattle.lg_export.specs.Readable.{CanBeLaidOut};
 ghost use Rattle.lg_export.specs.Agreement.{Agrees};
 ghost use Rattle.lg_export.specs.InTime.{AgreesInTime};
 
-use crate::drivers::Drivers;
+use crate::bits::Wires;
 use crate::names::{input_name, module_name, output_name};
 use crate::parts::{put_assigns, put_decls};
+use crate::ranges::range_of;
 use lg_netlist::{Netlist, NotAccepted, PartUse};
-use lg_verilog::{Assign, Decl, Direction, Module, Port, Range};
+use lg_verilog::{Assign, Decl, Direction, Module, Port};
 use sqlite_items::Items;
 use std::alloc::{AllocError, Global};
 
@@ -29,12 +29,12 @@ pub fn export(alloc: Global, netlist: &Netlist) -> Result<Module, NotAccepted>
     ensures refused { IfErr result (λ fault. (fault ≡ refusal.Memory) ⊎ IsRefused netlist.now fault) }
     // Each part has its own wires and equations.
     ensures layout { IfOk result (λ m. m ≡ module_of netlist.now) }
-    // Of a one-gate circuit: on each row of defined inputs the module has exactly one solution, and its outputs are
-    // the static values.
-    ensures agrees { IfOk result (λ m. IsTrue (is_one_gate netlist.now) → Agrees netlist.now m) }
-    // Of a one-gate circuit: each list of such rows has exactly one session table, in which each row settles in at
-    // most one instant, on these outputs.
-    ensures in_time { IfOk result (λ m. IsTrue (is_one_gate netlist.now) → AgreesInTime netlist.now m) }
+    // The module is valid and has exactly one solution for all registers, memories and inputs; on each list of rows of
+    // defined inputs its outputs are those of the static rows.
+    ensures agrees { IfOk result (λ m. Agrees netlist.now m) }
+    // Each list of such rows has exactly one session table, at each limit that the longest chain keeps to: no row
+    // oscillates, each settles within that delay, on the module's outputs.
+    ensures in_time { IfOk result (λ m. AgreesInTime netlist.now m) }
 {
     netlist.check_export(alloc)?;
     Ok(laid_out(alloc, netlist)?)
@@ -47,7 +47,7 @@ fn laid_out(alloc: Global, netlist: &Netlist) -> Result<Module, AllocError>
     Ok(Module {
         name: module_name(alloc, netlist.circuit.as_str())?,
         ports: ports(alloc, netlist)?,
-        decls: decls(alloc, netlist.parts.as_slice())?,
+        decls: decls(alloc, netlist)?,
         init: None,
         assigns: assigns(alloc, netlist)?,
         edge: None,
@@ -56,7 +56,6 @@ fn laid_out(alloc: Global, netlist: &Netlist) -> Result<Module, AllocError>
 
 // The input pins, then the output pins.
 fn ports(alloc: Global, netlist: &Netlist) -> Result<Items<Port>, AllocError>
-    requires { All IsNamed (data_pins netlist.now) }
     ensures { IfOk result (λ ports. ports ≡ module_ports netlist.now) }
 {
     let mut ports = Items::new(alloc);
@@ -65,7 +64,7 @@ fn ports(alloc: Global, netlist: &Netlist) -> Result<Items<Port>, AllocError>
         let name = input_name(alloc, pin)?;
         ports.push(Port {
             direction: Direction::Input,
-            range: Range::bit(),
+            range: range_of(pin.bits.len() as u32),
             name,
         })?;
     }
@@ -74,18 +73,18 @@ fn ports(alloc: Global, netlist: &Netlist) -> Result<Items<Port>, AllocError>
         let name = output_name(alloc, pin)?;
         ports.push(Port {
             direction: Direction::Output,
-            range: Range::bit(),
+            range: range_of(pin.bits.len() as u32),
             name,
         })?;
     }
     Ok(ports)
 }
 
-fn decls(alloc: Global, parts: &[PartUse]) -> Result<Items<Decl>, AllocError>
-    ensures { IfOk result (λ decls. decls ≡ flat_map part_decls (numbered parts.now)) }
+fn decls(alloc: Global, netlist: &Netlist) -> Result<Items<Decl>, AllocError>
+    ensures { IfOk result (λ decls. decls ≡ flat_map part_decls (numbered netlist.now.parts)) }
 {
     let mut decls = Items::new(alloc);
-    for (part, used) in parts.iter().enumerate() {
+    for (part, used) in netlist.parts.as_slice().iter().enumerate() {
         put_decls(alloc, &mut decls, part, used)?;
     }
     Ok(decls)
@@ -95,15 +94,15 @@ fn assigns(alloc: Global, netlist: &Netlist) -> Result<Items<Assign>, AllocError
     requires { CanBeLaidOut netlist.now }
     ensures { IfOk result (λ assigns. assigns ≡ module_assigns netlist.now) }
 {
-    let drivers = Drivers::of(alloc, netlist)?;
+    let wires = Wires::of(alloc, netlist)?;
     let mut assigns = Items::new(alloc);
     for (part, used) in netlist.parts.as_slice().iter().enumerate() {
-        put_assigns(alloc, &mut assigns, &drivers, part, used)?;
+        put_assigns(alloc, &mut assigns, &wires, part, used)?;
     }
     let outputs = netlist.output_pins(alloc)?;
     for pin in &outputs {
         let name = output_name(alloc, pin)?;
-        let value = drivers.bits_value(alloc, pin.bits.as_slice())?;
+        let value = wires.bits_value(alloc, pin.bits.as_slice())?;
         assigns.push(Assign { name, value })?;
     }
     Ok(assigns)

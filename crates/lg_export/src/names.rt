@@ -48,11 +48,11 @@ pub fn output_wire(alloc: Global, part: usize, output: usize) -> Result<Name, Al
     Ok(Name::new(Text::from_string(format!(in alloc; "w{part}_{output}")?)))
 }
 
-// A name of its own with the same spelling.
-pub fn copy_of(alloc: Global, name: &Name) -> Result<Name, AllocError>
-    ensures { IfOk result (λ copy. copy ≡ name.now) }
+// `clk`
+pub fn clock_name(alloc: Global) -> Result<Name, AllocError>
+    ensures { IfOk result (λ name. name ≡ codes "clk") }
 {
-    Ok(Name::new(Text::copy_of(alloc, name.as_str())?))
+    Ok(Name::new(Text::copy_of(alloc, "clk")?))
 }
 
 fn prefixed(alloc: Global, prefix: &str, name: &str) -> Result<Text, AllocError>

@@ -1,14 +1,15 @@
 //! The wires and the equations of a part.
 
-ghost use Rattle.std.specs.Prelude.{◌≡◌, ◌<◌, ◌++◌, length, map, IfOk, OnOk};
-ghost use Rattle.lg_verilog.specs.declared.expr.Expr.TheVariants.{Whole};
-ghost use Rattle.lg_export.specs.Layout.{input_wire, attached, part_decls, part_assigns, first_of, joined, equation};
+ghost use Rattle.std.specs.Prelude.{◌≡◌, ◌<◌, ◌^◌, ◌++◌, length, IfOk, OnOk};
+ghost use Rattle.lg_export.specs.Layout.{part_decls, part_assigns, first_of, joined, equation};
 ghost use Rattle.lg_export.specs.Readable.{IsFed};
+ghost use Rattle.lg_export.specs.Stack.{KnowsDrivers};
 
-use crate::drivers::Drivers;
+use crate::bits::Wires;
 use crate::names::{input_wire, output_wire};
+use crate::ranges::range_of;
 use lg_netlist::{Cell, PartUse};
-use lg_verilog::{Assign, Decl, Expr, Operator, Range};
+use lg_verilog::{Assign, Decl, Expr, Operator};
 use sqlite_items::{Boxed, Items};
 use std::alloc::{AllocError, Global};
 
@@ -19,23 +20,21 @@ pub fn put_decls(
     part: usize,
     used: &PartUse,
 ) -> Result<(), AllocError>
+    requires few_inputs { length used.now.inputs < 2 ^ 32 }
+    requires few_outputs { length used.now.outputs < 2 ^ 32 }
     ensures { OnOk result (decls.new ≡ decls.old ++ part_decls (part, used.now)) }
 {
     for (input, bits) in used.inputs.as_slice().iter().enumerate() {
         if !bits.is_empty() {
             let name = input_wire(alloc, part, input)?;
-            decls.push(Decl::Wire {
-                range: Range::bit(),
-                name,
-            })?;
+            let range = range_of(used.cell.input_width(input as u32));
+            decls.push(Decl::Wire { range, name })?;
         }
     }
     for output in 0..used.outputs.len() {
         let name = output_wire(alloc, part, output)?;
-        decls.push(Decl::Wire {
-            range: Range::bit(),
-            name,
-        })?;
+        let range = range_of(used.cell.output_width(output as u32));
+        decls.push(Decl::Wire { range, name })?;
     }
     Ok(())
 }
@@ -44,18 +43,19 @@ pub fn put_decls(
 pub fn put_assigns(
     alloc: Global,
     assigns: &mut Items<Assign>,
-    drivers: &Drivers,
+    wires: &Wires<'_>,
     part: usize,
     used: &PartUse,
 ) -> Result<(), AllocError>
-    requires { IsFed drivers.now used.now }
-    ensures { OnOk result (assigns.new ≡ assigns.old ++ part_assigns drivers.now (part, used.now)) }
+    requires known { KnowsDrivers wires.now }
+    requires fed { IsFed wires.now.netlist.now used.now }
+    ensures { OnOk result (assigns.new ≡ assigns.old ++ part_assigns wires.now.netlist.now (part, used.now)) }
 {
     let mut read = Vec::new(alloc);
     for (input, bits) in used.inputs.as_slice().iter().enumerate() {
         if !bits.is_empty() {
             let name = input_wire(alloc, part, input)?;
-            let value = drivers.bits_value(alloc, bits.as_slice())?;
+            let value = wires.bits_value(alloc, bits.as_slice())?;
             assigns.push(Assign { name, value })?;
             read.push(Expr::Whole(input_wire(alloc, part, input)?))?;
         }

@@ -1,7 +1,7 @@
 //! What a cell says of its ports.
 
 ghost use Rattle.std.specs.Prelude.{◌≡◌, ◌≤◌, ◌<◌, IfOk};
-ghost use Rattle.lg_netlist.specs.Cell.{delay_of, reads, loose_of, input_name};
+ghost use Rattle.lg_netlist.specs.Cell.{delay_of, reads, loose_of, input_name, input_width, output_width};
 
 use crate::netlist::Cell;
 use lg_text::Text;
@@ -47,6 +47,28 @@ impl Cell {
         match self {
             Cell::Not => Loose::Unknown,
             Cell::And | Cell::Or => Loose::Ignored,
+        }
+    }
+
+    /// How many bits an input port has: 1 to 64.
+    pub fn input_width(self, _input: u32) -> u32
+        ensures value { result ≡ input_width self _input }
+        ensures least { 1 ≤ result }
+        ensures most { result ≤ 64 }
+    {
+        match self {
+            Cell::Not | Cell::And | Cell::Or => 1,
+        }
+    }
+
+    /// How many bits an output port has: 1 to 64.
+    pub fn output_width(self, _output: u32) -> u32
+        ensures value { result ≡ output_width self _output }
+        ensures least { 1 ≤ result }
+        ensures most { result ≤ 64 }
+    {
+        match self {
+            Cell::Not | Cell::And | Cell::Or => 1,
         }
     }
 

@@ -5,4 +5,4 @@ use Rattle.lg_export.proofs.layout.decls.Given as goal
 
 -- the wires so far and those that are left are all
 abbrev pub invariant-loop-part : goal.invariant-loop-part
-invariant-loop-part l = l.decls ++ flat_map part_decls (enumerate_from l.part (drop l.part l.parts)) ≡ flat_map part_decls (numbered l.parts)
+invariant-loop-part l = l.decls ++ flat_map part_decls (enumerate_from l.part (drop l.part l.netlist.parts)) ≡ flat_map part_decls (numbered l.netlist.parts)

@@ -1,21 +1,7 @@
--- An accepted netlist can be laid out, and the module of a one-gate netlist agrees with it.
-use Rattle.std.proofs.Common.{refl, sym, subst}
-use Rattle.lg_verilog.specs.declared.module.Module.{Module}
-use Rattle.lg_export.specs.Agreement.{Agrees}
-use Rattle.lg_export.specs.InTime.{AgreesInTime}
-use Rattle.lg_export.specs.Layout.{module_of}
+-- An accepted netlist can be laid out.
+use Rattle.std.proofs.Common.{refl}
 use Rattle.lg_export.proofs.Accepted.{CanBeLaidOut-accepted}
-use Rattle.lg_export.proofs.Agreeing.{agrees}
-use Rattle.lg_export.proofs.Tables.{agrees_in_time}
 use Rattle.lg_export.proofs.layout.export.Goals as goal
 
 pub laid_out-requires : goal.laid_out-requires
 laid_out-requires c = CanBeLaidOut-accepted c.args.netlist.now c.requires (c.in_ok-check_export.ensures.accepted refl)
-
-pub returns-clause-agrees : goal.returns-clause-agrees
-returns-clause-agrees c = λ one. subst (λ (m : Module). Agrees c.args.netlist.now m) (sym c.in_ok-laid_out.ensures) (agrees c.args.netlist.now one)
-
-pub returns-clause-in_time : goal.returns-clause-in_time
-returns-clause-in_time c = λ one.
-    let n = c.args.netlist.now in
-    subst (λ (m : Module). AgreesInTime n m) (sym c.in_ok-laid_out.ensures) (agrees_in_time n (module_of n) one (agrees n one))
