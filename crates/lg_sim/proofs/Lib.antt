@@ -1,0 +1,4 @@
+pub mod PartsInTime
+pub mod DrivenBits
+pub mod StaticNets
+pub mod Arrival
