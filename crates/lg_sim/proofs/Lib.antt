@@ -2,3 +2,5 @@ pub mod PartsInTime
 pub mod DrivenBits
 pub mod StaticNets
 pub mod Arrival
+pub mod SettlesSoon
+pub mod Tables
