@@ -17,19 +17,23 @@ use Rattle.lg_netlist.proofs.CycleLemmas.{cycle_leads, leads_cycle}
 use Rattle.lg_netlist.proofs.OrderLemmas.{arrow_inside, cycle_output}
 use Rattle.lg_netlist.proofs.Ways.{leads_or_not}
 
--- an output is on a cycle, or not
-cycle_or_not : (n : Netlist) (o : Output) (k : ℕ) → slice_get (all_outputs n) k ≡ Some o → IsOnCycle n o ⊎ (IsOnCycle n o → ⊥)
-cycle_or_not n o k is = go (leads_or_not (net_graph n) inside (n.nets + k) (n.nets + k))
+-- a way leads from one node of the graph of nets and outputs to another, or none does
+pub way_or_none : (n : Netlist) (from to : ℕ) → Leads (net_graph n) from to ⊎ (Leads (net_graph n) from to → ⊥)
+way_or_none n = leads_or_not (net_graph n) inside
   where
-    graph : IsNetGraph n (net_graph n)
-    graph = IsNetGraph-made n
-
     inside : (from to : ℕ) → HasArrow (net_graph n) from to → to < length (net_graph n)
     inside from to h = by_case (cases_lt from (length (net_graph n)))
       where
         by_case : (from < length (net_graph n)) ⊎ (length (net_graph n) ≤ from) → to < length (net_graph n)
-        by_case (inl less) = arrow_inside n (net_graph n) graph from to less h
+        by_case (inl less) = arrow_inside n (net_graph n) (IsNetGraph-made n) from to less h
         by_case (inr past) = absurd (nothing (subst (λ (xs : List ℕ). Contains xs to) (get_or_past (net_graph n) from [] past) h))
+
+-- an output is on a cycle, or not
+cycle_or_not : (n : Netlist) (o : Output) (k : ℕ) → slice_get (all_outputs n) k ≡ Some o → IsOnCycle n o ⊎ (IsOnCycle n o → ⊥)
+cycle_or_not n o k is = go (way_or_none n (n.nets + k) (n.nets + k))
+  where
+    graph : IsNetGraph n (net_graph n)
+    graph = IsNetGraph-made n
 
     go : Leads (net_graph n) (n.nets + k) (n.nets + k) ⊎ (Leads (net_graph n) (n.nets + k) (n.nets + k) → ⊥) → IsOnCycle n o ⊎ (IsOnCycle n o → ⊥)
     go (inl l) = inl (leads_cycle n (net_graph n) graph o k is l)
@@ -69,7 +73,7 @@ first_of n (suc k) = go (first_of n k) (slice_get (all_outputs n) k) refl
                 not_on (subst (IsOnCycle n) equal cycle)
 
 -- a netlist has a first part with an output on a cycle, or no output is on one
-cycles_or_none : (n : Netlist) → ((part : ℕ) × IsFirstOnCycle n part) ⊎ ((o : Output) → IsOnCycle n o → ⊥)
+pub cycles_or_none : (n : Netlist) → ((part : ℕ) × IsFirstOnCycle n part) ⊎ ((o : Output) → IsOnCycle n o → ⊥)
 cycles_or_none n = go (first_of n (length (all_outputs n)))
   where
     go : FirstOf n (length (all_outputs n)) → ((part : ℕ) × IsFirstOnCycle n part) ⊎ ((o : Output) → IsOnCycle n o → ⊥)

@@ -19,3 +19,6 @@ pub mod OneRefusal
 pub mod LongestLemmas
 pub mod Ways
 pub mod Judged
+pub mod DriverFacts
+pub mod AcceptedFacts
+pub mod Ranks
