@@ -40,10 +40,12 @@ none_is (Some x) h = absurd (false≢true h)
 pub no_clock_pin : (n : Netlist) → has_no_clock n ≡ true → n.clock_pin ≡ None
 no_clock_pin n none = none_is n.clock_pin (both_hold (length n.clocks == 0) (is_none n.clock_pin) none).1
 
+pub no_clocks : (n : Netlist) → has_no_clock n ≡ true → n.clocks ≡ []
+no_clocks n none = no_items n.clocks (both_hold (length n.clocks == 0) (is_none n.clock_pin) none).0
+
 pub no_clock_nets : (n : Netlist) → has_no_clock n ≡ true → clock_nets n ≡ []
 no_clock_nets n none =
-    let clocks : n.clocks ≡ [] = no_items n.clocks (both_hold (length n.clocks == 0) (is_none n.clock_pin) none).0 in
-    ap (λ (cs : List (ℕ × List ℕ)). map (λ (c : ℕ × List ℕ). c.0) cs ++ bits_at n.pins n.clock_pin) clocks ∙ ap (bits_at n.pins) (no_clock_pin n none)
+    ap (λ (cs : List (ℕ × List ℕ)). map (λ (c : ℕ × List ℕ). c.0) cs ++ bits_at n.pins n.clock_pin) (no_clocks n none) ∙ ap (bits_at n.pins) (no_clock_pin n none)
 
 data_pins-all : (n : Netlist) → n.clock_pin ≡ None → data_pins n ≡ n.pins
 data_pins-all n e = rw e (all_kept 0 n.pins)
@@ -52,8 +54,11 @@ data_pins-all n e = rw e (all_kept 0 n.pins)
     all_kept k [] = refl
     all_kept k (p ∷ pins) = ap (λ (ps : List PinUse). p ∷ ps) (all_kept (k + 1) pins)
 
+pub data_pins-none : (n : Netlist) → has_no_clock n ≡ true → data_pins n ≡ n.pins
+data_pins-none n none = data_pins-all n (no_clock_pin n none)
+
 pub input_pins-all : (n : Netlist) → has_no_clock n ≡ true → input_pins n ≡ filter (λ (p : PinUse). p.input) n.pins
-input_pins-all n none = ap (filter (λ (p : PinUse). p.input)) (data_pins-all n (no_clock_pin n none))
+input_pins-all n none = ap (filter (λ (p : PinUse). p.input)) (data_pins-none n none)
 
 -- ---- how many bits drive a net: no more than it has drivers
 

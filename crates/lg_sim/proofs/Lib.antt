@@ -4,3 +4,4 @@ pub mod StaticNets
 pub mod Arrival
 pub mod SettlesSoon
 pub mod Tables
+pub mod Accepted
