@@ -1,16 +1,15 @@
 -- In an accepted netlist without clocks each net that is read is driven by one output or one input pin.
-use Rattle.std.proofs.Common.{◌≡◌, ℕ, zero, suc, ◌+◌, ◌<◌, ◌≤◌, Bool, true, false, not, List, [], ◌∷◌, length, filter, Some, refl, sym, ap, subst, ◌∙◌, arith, inl, inr, ◌⊎◌}
+use Rattle.std.proofs.Common.{◌≡◌, ℕ, zero, suc, ◌<◌, ◌≤◌, Bool, true, false, not, List, [], ◌∷◌, length, filter, Some, refl, sym, ap, subst, ◌∙◌, arith, inl, inr, ◌⊎◌}
 use Rattle.std.specs.Prelude.{slice_get, All, Contains}
 use Rattle.std.proofs.lemmas.List.Elements.{All-head}
 use Rattle.std.proofs.lemmas.Option.{same_Some, none-some}
 use Rattle.lg_netlist.specs.declared.drivers.Driver.{Driver}
 use Rattle.lg_netlist.specs.declared.drivers.Driver.TheVariants.{Part, Pin, Clock}
-use Rattle.lg_netlist.specs.declared.netlist.PartUse.{PartUse}
 use Rattle.lg_netlist.specs.declared.netlist.PinUse.{PinUse}
 use Rattle.lg_netlist.specs.declared.netlist.Netlist.{Netlist}
 use Rattle.lg_netlist.specs.Acceptance.{IsAccepted, is_undriven}
 use Rattle.lg_netlist.specs.Drivers.{drivers}
-use Rattle.lg_netlist.specs.Static.{input_pins, output_pins, has_no_clock}
+use Rattle.lg_netlist.specs.Static.{input_pins, has_no_clock}
 use Rattle.lg_netlist.proofs.DriverFacts.{IsSourceOf, All-at, driver_is, is_driven}
 use Rattle.lg_netlist.proofs.AcceptedFacts.{one_driver, output_net, pin_net, read_is_driven, shown_is_driven}
 use Rattle.lg_sim.proofs.DrivenBits.{IsOutputBit, IsPinBit, no_clocks, data_pins-none, input_pins-all}

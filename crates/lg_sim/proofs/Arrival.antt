@@ -1,8 +1,7 @@
 -- Static words arrive at each output within the delays of the chains that end in it, and so within the longest.
-use Rattle.std.proofs.Common.{◌≡◌, ℕ, zero, suc, ◌+◌, ◌-◌, ◌<◌, ◌≤◌, true, false, List, [], ◌∷◌, length, map, get_or, Option, Some, None, refl, sym, ap, subst, ◌∙◌, arith, inl, inr, ◌⊎◌}
-use Rattle.std.specs.Prelude.{slice_get, Contains, All}
+use Rattle.std.proofs.Common.{◌≡◌, ℕ, zero, suc, ◌+◌, ◌-◌, ◌<◌, ◌≤◌, false, List, [], ◌∷◌, length, map, get_or, Option, Some, refl, sym, ap, subst, ◌∙◌, arith, inl, inr, ◌⊎◌}
+use Rattle.std.specs.Prelude.{slice_get}
 use Rattle.std.specs.List.{enumerate_from}
-use Rattle.std.proofs.lemmas.Bool.{cases_lt, false≢true}
 use Rattle.std.proofs.lemmas.Option.{same_Some, slice_get_within, get_or_from_slice_get}
 use Rattle.lg_value.specs.declared.bit.Bit.{Bit}
 use Rattle.lg_timing.specs.Circuit.{Word, Stimulus}
@@ -14,17 +13,14 @@ use Rattle.lg_timing.proofs.Outputs.{SameOutputs, quiet_from_same}
 use Rattle.lg_netlist.specs.declared.netlist.PartUse.{PartUse}
 use Rattle.lg_netlist.specs.declared.netlist.Netlist.{Netlist}
 use Rattle.lg_netlist.specs.Cell.{State, cell_word, delay_of}
-use Rattle.lg_netlist.specs.Chain.{Output, IsOutput, Drives, Reads, Follows, IsChain, output_delay, chain_delay, IsLongest}
+use Rattle.lg_netlist.specs.Chain.{Output, IsOutput, Follows, IsChain, output_delay, chain_delay, IsLongest}
 use Rattle.lg_netlist.specs.Drivers.{numbered}
 use Rattle.lg_netlist.specs.Static.{inputs_of}
+use Rattle.lg_netlist.proofs.DriverFacts.{Contains-at}
 use Rattle.lg_sim.specs.InTime.{part_of, circuit_of}
 use Rattle.lg_sim.proofs.PartsInTime.{delay_low, reads_each, cell_word-any, answer_at, word_count, each_part, part_at}
 use Rattle.lg_sim.proofs.DrivenBits.{IsOutputBit, IsPinBit}
 use Rattle.lg_sim.proofs.StaticNets.{Stays, static_word, ShowsStatic, pin_is_static, output_is_static, same_inputs}
-
--- an item of a list is in it
-pub contains_at : (bits : List ℕ) (i net : ℕ) → slice_get bits i ≡ Some net → Contains bits net
-contains_at bits i net there = (i, slice_get_within bits i net there, get_or_from_slice_get bits i net net there)
 
 -- the delay of an output is that of its part's cell
 delay_is : (n : Netlist) (o : Output) (p : PartUse) → slice_get n.parts o.0 ≡ Some p → output_delay n o ≡ delay_of p.cell
@@ -60,8 +56,8 @@ follows_driver n part output input i net p bits is_later is_part is_input is_bit
   is_earlier = (d.used, d.is_part, slice_get_within d.used.outputs d.output d.bits d.is_output);
   is_later = is_later;
   net = net;
-  driven = record { part = d.used; bits = d.bits; is_part = d.is_part; is_output = d.is_output; on = contains_at d.bits d.bit net d.is_bit };
-  read = record { part = p; input = input; bits = bits; is_part = is_part; is_input = is_input; reads = reads_each p.cell output input; on = contains_at bits i net is_bit };
+  driven = record { part = d.used; bits = d.bits; is_part = d.is_part; is_output = d.is_output; on = Contains-at d.bits d.bit net d.is_bit };
+  read = record { part = p; input = input; bits = bits; is_part = is_part; is_input = is_input; reads = reads_each p.cell output input; on = Contains-at bits i net is_bit };
 }
 
 -- an output shows its static word once the chains that end in it have passed
@@ -90,7 +86,7 @@ arrives n stimuli start s states value stays (suc fuel) most part output enough 
 
     by : (input i net : ℕ) (read : List ℕ) → slice_get p.inputs input ≡ Some read → slice_get read i ≡ Some net → IsOutputBit n net ⊎ IsPinBit n net
         → ((before other : ℕ) → most - output_delay n (part, output) ≤ fuel → ChainsWithin n (before, other) (most - output_delay n (part, output))
-            → (u : ℕ) → start + (most - output_delay n (part, output)) ≤ u → ShowsStatic n stimuli value u before other)
+        → (u : ℕ) → start + (most - output_delay n (part, output)) ≤ u → ShowsStatic n stimuli value u before other)
         → value_at (circuit_of n) stimuli (t - delay_of p.cell) net ≡ value net
     by input i net read is_input is_bit (inr pin) earlier = pin_is_static n stimuli start s states value stays (t - delay_of p.cell) net begun pin
     by input i net read is_input is_bit (inl d) earlier =
@@ -128,8 +124,8 @@ part_shows n stimuli value t part p is_part shows =
     let words = outputs_at (circuit_of n) stimuli t (part, part_of p) in
     words_are (static_word value p) 0 p.outputs words (word_count (timeline (circuit_of n) stimuli t) part p)
     (λ j m bits there at.
-        let same : j ≡ m = omega (arith, at) in
-        shows j p bits is_part there ∙ ap (λ (k : ℕ). Some (static_word value p k)) same)
+    let same : j ≡ m = omega (arith, at) in
+    shows j p bits is_part there ∙ ap (λ (k : ℕ). Some (static_word value p k)) same)
 
 -- where all outputs show static words at two instants, no part's outputs changed
 pub same_when_static : (n : Netlist) (stimuli : List Stimulus) (value : ℕ → Bit) (t u : ℕ) → ((part output : ℕ) → ShowsStatic n stimuli value t part output)
@@ -137,9 +133,9 @@ pub same_when_static : (n : Netlist) (stimuli : List Stimulus) (value : ℕ → 
 same_when_static n stimuli value t u first second =
     each_part (λ (p : Numbered). outputs_at (circuit_of n) stimuli t p ≡ outputs_at (circuit_of n) stimuli u p) 0 n.parts
     (λ i m p there at.
-        let same : i ≡ m = omega (arith, at) in
-        let is_part : slice_get n.parts m ≡ Some p = subst (λ (k : ℕ). slice_get n.parts k ≡ Some p) same there in
-        part_shows n stimuli value t m p is_part (first m) ∙ sym (part_shows n stimuli value u m p is_part (second m)))
+    let same : i ≡ m = omega (arith, at) in
+    let is_part : slice_get n.parts m ≡ Some p = subst (λ (k : ℕ). slice_get n.parts k ≡ Some p) same there in
+    part_shows n stimuli value t m p is_part (first m) ∙ sym (part_shows n stimuli value u m p is_part (second m)))
 
 -- and where no outputs changed, static words stay
 pub static_when_same : (n : Netlist) (stimuli : List Stimulus) (value : ℕ → Bit) (t u : ℕ) → SameOutputs (circuit_of n) stimuli t u → ((part output : ℕ) → ShowsStatic n stimuli value u part output)

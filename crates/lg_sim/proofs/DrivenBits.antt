@@ -1,10 +1,10 @@
 -- A net with one driver carries the bit that its driver puts on it.
-use Rattle.std.proofs.Common.{◌≡◌, ℕ, zero, suc, ◌+◌, ◌-◌, ◌<◌, ◌≤◌, Bool, true, false, cond, List, [], ◌∷◌, ◌++◌, length, map, filter, get_or, Option, Some, None, refl, sym, ap, subst, ◌∙◌, arith, inl, inr, ◌⊎◌, eq-eqb, append-nil, replicate, if◌then◌else◌}
+use Rattle.std.proofs.Common.{◌≡◌, ℕ, zero, suc, ◌+◌, ◌≤◌, Bool, true, false, cond, List, [], ◌∷◌, ◌++◌, length, map, filter, Option, Some, None, refl, sym, ap, subst, ◌∙◌, arith, eq-eqb, append-nil, replicate}
 use Rattle.std.specs.Prelude.{◌==◌, ◌&&◌, slice_get, is_none, Contains}
 use Rattle.std.specs.List.{flat_map, enumerate_from}
 use Rattle.std.specs.Option.{option_map}
 use Rattle.std.proofs.lemmas.Bool.{eqb-true, false≢true}
-use Rattle.std.proofs.lemmas.List.{length-append, length-map}
+use Rattle.std.proofs.lemmas.List.{length-append, length-map, nil_from_length}
 use Rattle.std.proofs.lemmas.List.Elements.{filter-append, Contains-append_left, Contains-append_right}
 use Rattle.std.proofs.lemmas.Option.{slice_get-map, same_Some, none-some}
 use Rattle.lg_value.specs.declared.bit.Bit.{Bit}
@@ -13,7 +13,7 @@ use Rattle.lg_value.specs.Drivers.{join_of_drivers}
 use Rattle.lg_timing.specs.Circuit.{Word, Port, Stimulus}
 use Rattle.lg_timing.specs.Instant.{Instant, Numbered, bits_on, words_on, output_words, drivers_of, net_bit, or_else, numbered_parts}
 use Rattle.lg_netlist.specs.declared.drivers.Driver.{Driver}
-use Rattle.lg_netlist.specs.declared.drivers.Driver.TheVariants.{Part, Pin, Clock}
+use Rattle.lg_netlist.specs.declared.drivers.Driver.TheVariants.{Part, Pin}
 use Rattle.lg_netlist.specs.declared.netlist.PartUse.{PartUse}
 use Rattle.lg_netlist.specs.declared.netlist.PinUse.{PinUse}
 use Rattle.lg_netlist.specs.declared.netlist.Netlist.{Netlist}
@@ -25,13 +25,9 @@ use Rattle.lg_sim.proofs.PartsInTime.{nets_of-ports, part_at}
 
 -- ---- no clocks
 
-pub both_hold : (a b : Bool) → (a && b) ≡ true → (a ≡ true) × (b ≡ true)
+both_hold : (a b : Bool) → (a && b) ≡ true → (a ≡ true) × (b ≡ true)
 both_hold true b h = (refl, h)
 both_hold false b h = absurd (false≢true h)
-
-no_items : {A : Type 0} (xs : List A) → (length xs == 0) ≡ true → xs ≡ []
-no_items [] h = refl
-no_items (x ∷ xs) h = let none : suc (length xs) ≡ 0 = eqb-true (suc (length xs)) 0 h in absurd (omega (arith, none))
 
 none_is : {A : Type 0} (o : Option A) → is_none o ≡ true → o ≡ None
 none_is None h = refl
@@ -41,7 +37,7 @@ pub no_clock_pin : (n : Netlist) → has_no_clock n ≡ true → n.clock_pin ≡
 no_clock_pin n none = none_is n.clock_pin (both_hold (length n.clocks == 0) (is_none n.clock_pin) none).1
 
 pub no_clocks : (n : Netlist) → has_no_clock n ≡ true → n.clocks ≡ []
-no_clocks n none = no_items n.clocks (both_hold (length n.clocks == 0) (is_none n.clock_pin) none).0
+no_clocks n none = nil_from_length n.clocks (eqb-true (length n.clocks) 0 (both_hold (length n.clocks == 0) (is_none n.clock_pin) none).0)
 
 pub no_clock_nets : (n : Netlist) → has_no_clock n ≡ true → clock_nets n ≡ []
 no_clock_nets n none =
@@ -87,7 +83,7 @@ few_words net part k (bits ∷ ports) (word ∷ words) =
       length-append (bits_on net bits word) (words_on net ports words),
       on-append net (output_drivers part (k, bits)) (flat_map (output_drivers part) (enumerate_from (k + 1) ports)),
       few_bits net 0 (Part part k) bits word,
-      few_words net part (k + 1) ports words
+      few_words net part (k + 1) ports words,
     )
 
 -- the bits that a part puts on a net
@@ -107,7 +103,7 @@ few_from_parts net past k (p ∷ parts) =
       on-append net (part_drivers (k, p)) (flat_map part_drivers (enumerate_from (k + 1) parts)),
       ap length (bits_of_part-are net past k p),
       few_words net k 0 p.outputs (output_words past (k, part_of p)),
-      few_from_parts net past (k + 1) parts
+      few_from_parts net past (k + 1) parts,
     )
 
 few_from_pins : (net k : ℕ) (pins : List PinUse) (words : List Word)
@@ -127,7 +123,7 @@ few_from_pins net k (p ∷ pins) words = by p.input refl words (λ ws. few_from_
           length-append (bits_on net p.bits word) (words_on net (map (λ (q : PinUse). q.bits) (filter (λ (q : PinUse). q.input) pins)) ws),
           on-append net own (flat_map pin_drivers (enumerate_from (k + 1) pins)),
           few_bits net 0 (Pin k) p.bits word,
-          few ws
+          few ws,
         ))
     by false e ws few = rw e (few ws)
 
@@ -155,7 +151,7 @@ few_drive n s past net none =
       few_pins,
       length-map (on net (all_drivers n)) (λ (d : ℕ × Driver). d.1),
       on-append net (parts ++ pins) (map clock_driver (numbered n.clocks)),
-      on-append net parts pins
+      on-append net parts pins,
     )
 
 -- ---- which bits drive it

@@ -1,13 +1,14 @@
 -- The parts of a netlist's circuit answer as its cells do: to the words on attached inputs, whatever their states.
-use Rattle.std.proofs.Common.{◌≡◌, ℕ, zero, suc, ◌+◌, ◌-◌, ◌<◌, ◌≤◌, true, List, [], ◌∷◌, length, map, get_or, Option, Some, None, refl, sym, ap, subst, ◌∙◌, arith}
+use Rattle.std.proofs.Common.{◌≡◌, ℕ, zero, suc, ◌+◌, ◌-◌, ◌≤◌, true, List, [], ◌∷◌, length, map, Option, Some, None, refl, ap, ◌∙◌, arith}
 use Rattle.std.specs.Prelude.{slice_get, All}
 use Rattle.std.specs.List.{enumerate_from}
 use Rattle.std.specs.Option.{option_map}
 use Rattle.std.proofs.lemmas.List.{length-map}
 use Rattle.std.proofs.lemmas.List.Elements.{All-nil, All-cons}
-use Rattle.std.proofs.lemmas.Option.{slice_get-map, slice_get_within, same_Some, none-some}
+use Rattle.std.proofs.lemmas.List.FromFn.{length-enumerate_from}
+use Rattle.std.proofs.lemmas.Option.{slice_get-map, same_Some, none-some}
 use Rattle.lg_value.specs.declared.bit.Bit.{Bit}
-use Rattle.lg_timing.specs.Circuit.{Word, Port, Part}
+use Rattle.lg_timing.specs.Circuit.{Word, Port}
 use Rattle.lg_timing.specs.Instant as time
 use Rattle.lg_timing.specs.Instant.{Instant, Numbered, answered, output_words, input_words}
 use Rattle.lg_timing.specs.Settling.{IsSteady}
@@ -88,17 +89,13 @@ answer_at k j p bits instant there =
     ∙ (ap (option_map word) (slice_get-numbered 0 j j p.outputs bits there (omega arith))
     ∙ ap (λ (inputs : List (Option Word)). Some (cell_word p.cell (time.state_of instant k) inputs j)) (given_words instant.nets p))
 
-length-numbered : {A : Type 0} (k : ℕ) (xs : List A) → length (enumerate_from k xs) ≡ length xs
-length-numbered k [] = refl
-length-numbered k (x ∷ xs) = ap suc (length-numbered (k + 1) xs)
-
 -- a part has a word for each of its outputs
 pub word_count : (past : List Instant) (k : ℕ) (p : PartUse) → length (output_words past (k, part_of p)) ≡ length p.outputs
 word_count past k p = by (slice_get past (delay_of p.cell - 1))
   where
     by : (o : Option Instant) → length (answered (k, part_of p) o) ≡ length p.outputs
-    by None = length-map (ports_of (output_width p.cell) (numbered p.outputs)) _ ∙ (length-map (numbered p.outputs) _ ∙ length-numbered 0 p.outputs)
-    by (Some instant) = length-map (numbered p.outputs) _ ∙ length-numbered 0 p.outputs
+    by None = length-map (ports_of (output_width p.cell) (numbered p.outputs)) _ ∙ (length-map (numbered p.outputs) _ ∙ length-enumerate_from 0 p.outputs)
+    by (Some instant) = length-map (numbered p.outputs) _ ∙ length-enumerate_from 0 p.outputs
 
 -- the nets of numbered ports
 pub nets_of-ports : (width : ℕ → ℕ) (k : ℕ) (ports : List (List ℕ)) → map (λ (port : Port). port.nets) (ports_of width (enumerate_from k ports)) ≡ ports

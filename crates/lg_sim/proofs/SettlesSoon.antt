@@ -1,12 +1,12 @@
 -- A stimulus of static values settles within the longest delay, and each driven net has its static value then.
-use Rattle.std.proofs.Common.{◌≡◌, ℕ, zero, suc, ◌+◌, ◌-◌, ◌<◌, ◌≤◌, Bool, true, false, cond, List, [], ◌∷◌, ◌++◌, length, map, get_or, Some, refl, sym, ap, subst, ◌∙◌, arith, inl, inr, ◌⊎◌, if◌then◌else◌}
-use Rattle.std.specs.Prelude.{nat_le, slice_get, All}
+use Rattle.std.proofs.Common.{◌≡◌, ℕ, zero, suc, ◌+◌, ◌-◌, ◌<◌, ◌≤◌, Bool, true, false, List, [], ◌∷◌, ◌++◌, map, get_or, Some, refl, ap, ◌∙◌, arith, inl, inr, ◌⊎◌, if◌then◌else◌}
+use Rattle.std.specs.Prelude.{nat_le, slice_get}
 use Rattle.std.proofs.lemmas.Bool.{cases_lt, le-leb, both_ways}
 use Rattle.std.proofs.lemmas.List.Sums.{fold-append}
 use Rattle.std.proofs.lemmas.List.Elements.{All-nil, All-cons, All-append}
 use Rattle.lg_value.specs.declared.bit.Bit.{Bit}
 use Rattle.lg_timing.specs.Circuit.{Word, Circuit, Stimulus}
-use Rattle.lg_timing.specs.Instant.{Numbered, numbered_parts, in_force, silence, value_at, outputs_at}
+use Rattle.lg_timing.specs.Instant.{numbered_parts, in_force, silence, value_at, outputs_at}
 use Rattle.lg_timing.specs.Settling.{is_busy, busy_count, SettlesAt, SettlesWithin, OscillatesPast, StayFrom}
 use Rattle.lg_timing.specs.Session.{read_at, set_at}
 use Rattle.lg_timing.proofs.Outcome.{settles_or_oscillates}
@@ -35,11 +35,6 @@ stay_more : (before : List Stimulus) (s : Stimulus) → StayFrom before s.from �
 stay_more before s stay =
     let stands : Stimulus → Type 0 = λ (other : Stimulus). other.from ≤ s.from in
     All-append stands before (s ∷ []) stay (All-cons stands s [] (omega arith) (All-nil stands))
-
-pub stay_later : (stimuli : List Stimulus) (start t : ℕ) → start ≤ t → StayFrom stimuli start → StayFrom stimuli t
-stay_later stimuli start t later stay k d inside =
-    let stands : (get_or stimuli k d).from ≤ start = stay k d inside in
-    omega (arith, stands, later)
 
 -- ---- how many instants are busy
 

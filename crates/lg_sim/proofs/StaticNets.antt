@@ -1,17 +1,15 @@
 -- Where the parts of an accepted netlist show what they answer to static values, each driven net has its static value.
-use Rattle.std.proofs.Common.{◌≡◌, ℕ, zero, suc, ◌+◌, ◌-◌, ◌<◌, ◌≤◌, true, List, [], ◌∷◌, length, map, Option, Some, None, refl, sym, ap, subst, ◌∙◌, arith, inl, inr, ◌⊎◌}
-use Rattle.std.specs.Prelude.{slice_get, Contains}
-use Rattle.std.specs.List.{enumerate_from}
+use Rattle.std.proofs.Common.{◌≡◌, ℕ, suc, ◌≤◌, true, List, [], ◌∷◌, length, map, Option, Some, refl, sym, ap, subst, ◌∙◌, inl, inr, ◌⊎◌}
+use Rattle.std.specs.Prelude.{slice_get}
 use Rattle.std.specs.Option.{option_map}
 use Rattle.std.proofs.lemmas.Option.{slice_get-map, none-some}
 use Rattle.lg_value.specs.declared.bit.Bit.{Bit}
 use Rattle.lg_timing.specs.Circuit.{Word, Stimulus}
-use Rattle.lg_timing.specs.Instant.{Instant, in_force, timeline, value_at, net_bit, output_words, outputs_at}
+use Rattle.lg_timing.specs.Instant.{in_force, timeline, value_at, net_bit, outputs_at}
 use Rattle.lg_netlist.specs.declared.netlist.PartUse.{PartUse}
 use Rattle.lg_netlist.specs.declared.netlist.PinUse.{PinUse}
 use Rattle.lg_netlist.specs.declared.netlist.Netlist.{Netlist}
 use Rattle.lg_netlist.specs.Cell.{State, cell_word}
-use Rattle.lg_netlist.specs.Chain.{IsLongest}
 use Rattle.lg_netlist.specs.Drivers.{drivers}
 use Rattle.lg_netlist.specs.Static as static
 use Rattle.lg_netlist.specs.Static.{input_pins, output_pins, word_on, inputs_of, state_of, Carries, AreStaticValues, has_no_clock}

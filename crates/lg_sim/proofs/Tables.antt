@@ -1,6 +1,5 @@
 -- The session table of rows of defined inputs on an accepted netlist without clocks.
-use Rattle.std.proofs.Common.{◌≡◌, ℕ, suc, ◌+◌, ◌-◌, ◌≤◌, List, [], ◌∷◌, ◌++◌, map, None, refl, sym, ap, subst, ◌∙◌, arith, true}
-use Rattle.std.specs.Prelude.{All}
+use Rattle.std.proofs.Common.{◌≡◌, ℕ, ◌+◌, ◌-◌, ◌≤◌, List, [], ◌∷◌, map, None, refl, sym, subst, arith, true}
 use Rattle.std.specs.List.{AllByRecursion}
 use Rattle.std.proofs.lemmas.List.Elements.{All-nil}
 use Rattle.lg_value.specs.declared.bit.Bit.{Bit}
@@ -8,6 +7,7 @@ use Rattle.lg_timing.specs.Circuit.{Word, Stimulus}
 use Rattle.lg_timing.specs.Settling.{StayFrom}
 use Rattle.lg_timing.specs.Session.{Line, Table, read_at, Ticks, GoesOn}
 use Rattle.lg_timing.proofs.OneTable.{one_table}
+use Rattle.lg_timing.proofs.Rest.{stay_later}
 use Rattle.lg_netlist.specs.declared.netlist.Netlist.{Netlist}
 use Rattle.lg_netlist.specs.Cell.{State}
 use Rattle.lg_netlist.specs.Chain.{IsLongest}
@@ -16,7 +16,7 @@ use Rattle.lg_sim.specs.InTime.{circuit_of}
 use Rattle.lg_sim.specs.Settled.{SettlesOnRows}
 use Rattle.lg_sim.proofs.DrivenBits.{no_clock_nets}
 use Rattle.lg_sim.proofs.StaticNets.{IsDriven}
-use Rattle.lg_sim.proofs.SettlesSoon.{Soon, extended, extended_stays, stay_later, row_settles}
+use Rattle.lg_sim.proofs.SettlesSoon.{extended, extended_stays, row_settles}
 
 -- what a table rests on: nets are driven, chains are no longer than the limit, and rows have static values
 pub record IsStatic (n : Netlist) (longest limit : ℕ) : Type 0 where
@@ -68,11 +68,13 @@ pub static_table : (n : Netlist) (longest limit : ℕ) (rows : List (List Word))
     → (table : Table) × SettlesOnRows n longest limit rows table
 static_table n longest limit rows g defined =
     let all = rest n longest limit g (start_states n) [] 1 0 rows (All-nil (λ (s : Stimulus). s.from ≤ 0)) defined in
-    let table : Table = record { lines = all.lines; stop = None } in
-    (table, record {
-      is_table = all.goes_on;
-      only = λ other is. one_table (circuit_of n) limit rows other table is all.goes_on;
-      none_oscillates = refl;
-      soon = all.soon;
-      static = all.static;
-    })
+    let table : Table = record { lines = all.lines; stop = None } in (
+      table,
+      record {
+        is_table = all.goes_on;
+        only = λ other is. one_table (circuit_of n) limit rows other table is all.goes_on;
+        none_oscillates = refl;
+        soon = all.soon;
+        static = all.static;
+      },
+    )
