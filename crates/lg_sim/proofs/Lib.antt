@@ -5,3 +5,4 @@ pub mod Arrival
 pub mod SettlesSoon
 pub mod Tables
 pub mod Accepted
+pub mod SettlesOnRows
