@@ -16,11 +16,13 @@ use Rattle.lg_netlist.specs.Cell.{State, cell_word, delay_of}
 use Rattle.lg_netlist.specs.Chain.{Output, IsOutput, Follows, IsChain, output_delay, chain_delay, IsLongest}
 use Rattle.lg_netlist.specs.Drivers.{numbered}
 use Rattle.lg_netlist.specs.Static.{inputs_of}
+use Rattle.lg_netlist.proofs.CellFacts.{cell_word-state, reads_all}
 use Rattle.lg_netlist.proofs.DriverFacts.{Contains-at}
+use Rattle.lg_netlist.proofs.StaticRuns.{inputs_agree}
 use Rattle.lg_sim.specs.InTime.{part_of, circuit_of}
-use Rattle.lg_sim.proofs.PartsInTime.{delay_low, reads_each, cell_word-any, answer_at, word_count, each_part, part_at}
+use Rattle.lg_sim.proofs.PartsInTime.{delay_low, answer_at, word_count, each_part, part_at}
 use Rattle.lg_sim.proofs.DrivenBits.{IsOutputBit, IsPinBit}
-use Rattle.lg_sim.proofs.StaticNets.{Stays, static_word, ShowsStatic, pin_is_static, output_is_static, same_inputs}
+use Rattle.lg_sim.proofs.StaticNets.{Stays, static_word, ShowsStatic, pin_is_static, output_is_static}
 
 -- the delay of an output is that of its part's cell
 delay_is : (n : Netlist) (o : Output) (p : PartUse) → slice_get n.parts o.0 ≡ Some p → output_delay n o ≡ delay_of p.cell
@@ -37,7 +39,7 @@ shows_later n stimuli value t u part output p bits is_output later same =
     ap (λ (o : Option Instant). slice_get (answered (part, part_of p) o) output) back
     ∙ (answer_at part output p bits (instant_at c stimuli u) is_output
     ∙ (ap (λ (inputs : List (Option Word)). Some (cell_word p.cell state inputs output)) same
-    ∙ ap (λ (word : Word). Some word) (cell_word-any p.cell state [] (inputs_of value p) output)))
+    ∙ ap (λ (word : Word). Some word) (cell_word-state p.cell state [] (inputs_of value p) output)))
 
 -- each chain that ends in an output is no longer than this
 abbrev ChainsWithin : Netlist → Output → ℕ → Type 0
@@ -57,7 +59,7 @@ follows_driver n part output input i net p bits is_later is_part is_input is_bit
   is_later = is_later;
   net = net;
   driven = record { part = d.used; bits = d.bits; is_part = d.is_part; is_output = d.is_output; on = Contains-at d.bits d.bit net d.is_bit };
-  read = record { part = p; input = input; bits = bits; is_part = is_part; is_input = is_input; reads = reads_each p.cell output input; on = Contains-at bits i net is_bit };
+  read = record { part = p; input = input; bits = bits; is_part = is_part; is_input = is_input; reads = reads_all p.cell output input; on = Contains-at bits i net is_bit };
 }
 
 -- an output shows its static word once the chains that end in it have passed
@@ -68,8 +70,8 @@ arrives n stimuli start s states value stays zero most part output enough within
     absurd (omega (arith, alone, enough, delay_is n (part, output) p is_part, delay_low p.cell))
 arrives n stimuli start s states value stays (suc fuel) most part output enough within t passed p bits is_part is_output =
     shows_later n stimuli value t (t - delay_of p.cell) part output p bits is_output (omega (arith, alone, delay, passed))
-    (same_inputs (value_at (circuit_of n) stimuli (t - delay_of p.cell)) value p.inputs
-    (λ input i net read is_input is_bit. by input i net read is_input is_bit (stays.driven.read part input i net p read is_part is_input is_bit)
+    (inputs_agree (value_at (circuit_of n) stimuli (t - delay_of p.cell)) value p
+    (λ input read i net is_input is_bit. by input i net read is_input is_bit (stays.driven.read part input i net p read is_part is_input is_bit)
     (λ before other less within_less u reached. arrives n stimuli start s states value stays fuel (most - output_delay n (part, output)) before other less within_less u reached)))
   where
     is_one : IsOutput n (part, output)

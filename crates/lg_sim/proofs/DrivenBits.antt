@@ -1,10 +1,9 @@
 -- A net with one driver carries the bit that its driver puts on it.
-use Rattle.std.proofs.Common.{◌≡◌, ℕ, zero, suc, ◌+◌, ◌≤◌, Bool, true, false, cond, List, [], ◌∷◌, ◌++◌, length, map, filter, Option, Some, None, refl, sym, ap, subst, ◌∙◌, arith, eq-eqb, append-nil, replicate}
-use Rattle.std.specs.Prelude.{◌==◌, ◌&&◌, slice_get, is_none, Contains}
+use Rattle.std.proofs.Common.{◌≡◌, ℕ, zero, suc, ◌+◌, ◌≤◌, Bool, true, false, cond, List, [], ◌∷◌, ◌++◌, length, map, filter, Some, refl, sym, ap, subst, ◌∙◌, arith, eq-eqb, append-nil, replicate}
+use Rattle.std.specs.Prelude.{◌==◌, slice_get, Contains}
 use Rattle.std.specs.List.{flat_map, enumerate_from}
 use Rattle.std.specs.Option.{option_map}
-use Rattle.std.proofs.lemmas.Bool.{eqb-true, false≢true}
-use Rattle.std.proofs.lemmas.List.{length-append, length-map, nil_from_length}
+use Rattle.std.proofs.lemmas.List.{length-append, length-map}
 use Rattle.std.proofs.lemmas.List.Elements.{filter-append, Contains-append_left, Contains-append_right}
 use Rattle.std.proofs.lemmas.Option.{slice_get-map, same_Some, none-some}
 use Rattle.lg_value.specs.declared.bit.Bit.{Bit}
@@ -19,42 +18,10 @@ use Rattle.lg_netlist.specs.declared.netlist.PinUse.{PinUse}
 use Rattle.lg_netlist.specs.declared.netlist.Netlist.{Netlist}
 use Rattle.lg_netlist.specs.Cell.{output_width}
 use Rattle.lg_netlist.specs.Drivers.{output_drivers, part_drivers, pin_drivers, clock_driver, all_drivers, drivers, numbered}
-use Rattle.lg_netlist.specs.Static.{data_pins, input_pins, clock_nets, bits_at, has_no_clock}
+use Rattle.lg_netlist.specs.Static.{input_pins, has_no_clock}
+use Rattle.lg_netlist.proofs.StaticLemmas.{no_clock_nets, all_input_pins}
 use Rattle.lg_sim.specs.InTime.{part_of, circuit_of}
 use Rattle.lg_sim.proofs.PartsInTime.{nets_of-ports, part_at}
-
--- ---- no clocks
-
-both_hold : (a b : Bool) → (a && b) ≡ true → (a ≡ true) × (b ≡ true)
-both_hold true b h = (refl, h)
-both_hold false b h = absurd (false≢true h)
-
-none_is : {A : Type 0} (o : Option A) → is_none o ≡ true → o ≡ None
-none_is None h = refl
-none_is (Some x) h = absurd (false≢true h)
-
-pub no_clock_pin : (n : Netlist) → has_no_clock n ≡ true → n.clock_pin ≡ None
-no_clock_pin n none = none_is n.clock_pin (both_hold (length n.clocks == 0) (is_none n.clock_pin) none).1
-
-pub no_clocks : (n : Netlist) → has_no_clock n ≡ true → n.clocks ≡ []
-no_clocks n none = nil_from_length n.clocks (eqb-true (length n.clocks) 0 (both_hold (length n.clocks == 0) (is_none n.clock_pin) none).0)
-
-pub no_clock_nets : (n : Netlist) → has_no_clock n ≡ true → clock_nets n ≡ []
-no_clock_nets n none =
-    ap (λ (cs : List (ℕ × List ℕ)). map (λ (c : ℕ × List ℕ). c.0) cs ++ bits_at n.pins n.clock_pin) (no_clocks n none) ∙ ap (bits_at n.pins) (no_clock_pin n none)
-
-data_pins-all : (n : Netlist) → n.clock_pin ≡ None → data_pins n ≡ n.pins
-data_pins-all n e = rw e (all_kept 0 n.pins)
-  where
-    all_kept : (k : ℕ) (pins : List PinUse) → map (λ (p : ℕ × PinUse). p.1) (filter (λ (p : ℕ × PinUse). true) (enumerate_from k pins)) ≡ pins
-    all_kept k [] = refl
-    all_kept k (p ∷ pins) = ap (λ (ps : List PinUse). p ∷ ps) (all_kept (k + 1) pins)
-
-pub data_pins-none : (n : Netlist) → has_no_clock n ≡ true → data_pins n ≡ n.pins
-data_pins-none n none = data_pins-all n (no_clock_pin n none)
-
-pub input_pins-all : (n : Netlist) → has_no_clock n ≡ true → input_pins n ≡ filter (λ (p : PinUse). p.input) n.pins
-input_pins-all n none = ap (filter (λ (p : PinUse). p.input)) (data_pins-none n none)
 
 -- ---- how many bits drive a net: no more than it has drivers
 
@@ -142,7 +109,7 @@ few_drive n s past net none =
     let pins : List (ℕ × Driver) = flat_map pin_drivers (numbered n.pins) in
     let pin_bits : ℕ = length (words_on net (map (λ (p : PinUse). p.bits) (input_pins n)) s.words) in
     let few_pins : pin_bits ≤ length (on net pins) =
-    subst (λ (inputs : List PinUse). length (words_on net (map (λ (p : PinUse). p.bits) inputs) s.words) ≤ length (on net pins)) (sym (input_pins-all n none)) (few_from_pins net 0 n.pins s.words) in
+    subst (λ (inputs : List PinUse). length (words_on net (map (λ (p : PinUse). p.bits) inputs) s.words) ≤ length (on net pins)) (sym (all_input_pins n none)) (few_from_pins net 0 n.pins s.words) in
     omega (
       arith,
       ap length (drivers_of-are n s past net none),

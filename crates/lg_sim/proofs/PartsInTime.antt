@@ -1,5 +1,5 @@
 -- The parts of a netlist's circuit answer as its cells do: to the words on attached inputs, whatever their states.
-use Rattle.std.proofs.Common.{◌≡◌, ℕ, zero, suc, ◌+◌, ◌-◌, ◌≤◌, true, List, [], ◌∷◌, length, map, Option, Some, None, refl, ap, ◌∙◌, arith}
+use Rattle.std.proofs.Common.{◌≡◌, ℕ, zero, suc, ◌+◌, ◌-◌, ◌≤◌, List, [], ◌∷◌, length, map, Option, Some, None, refl, ap, ◌∙◌, arith}
 use Rattle.std.specs.Prelude.{slice_get, All}
 use Rattle.std.specs.List.{enumerate_from}
 use Rattle.std.specs.Option.{option_map}
@@ -15,7 +15,7 @@ use Rattle.lg_timing.specs.Settling.{IsSteady}
 use Rattle.lg_netlist.specs.declared.netlist.Cell.{Cell}
 use Rattle.lg_netlist.specs.declared.netlist.Cell.TheVariants.{Not, And, Or}
 use Rattle.lg_netlist.specs.declared.netlist.PartUse.{PartUse}
-use Rattle.lg_netlist.specs.Cell.{State, cell_word, cell_step, delay_of, reads, input_width, output_width}
+use Rattle.lg_netlist.specs.Cell.{State, cell_word, cell_step, delay_of, input_width, output_width}
 use Rattle.lg_netlist.specs.Drivers.{numbered}
 use Rattle.lg_netlist.specs.Static as static
 use Rattle.lg_netlist.specs.Static.{inputs_of}
@@ -32,23 +32,11 @@ delay_high Not = omega arith
 delay_high And = omega arith
 delay_high Or = omega arith
 
--- each output reads each input
-pub reads_each : (c : Cell) (output input : ℕ) → reads c output input ≡ true
-reads_each Not output input = refl
-reads_each And output input = refl
-reads_each Or output input = refl
-
 -- cells keep nothing
 keeps_nothing : (c : Cell) (state : State) (before now : List (Option (List Bit))) → cell_step c state before now ≡ state
 keeps_nothing Not state before now = refl
 keeps_nothing And state before now = refl
 keeps_nothing Or state before now = refl
-
--- so a cell's answer does not depend on its state
-pub cell_word-any : (c : Cell) (s t : State) (inputs : List (Option (List Bit))) (output : ℕ) → cell_word c s inputs output ≡ cell_word c t inputs output
-cell_word-any Not s t inputs output = refl
-cell_word-any And s t inputs output = refl
-cell_word-any Or s t inputs output = refl
 
 pub steady_part : (p : PartUse) → IsSteady 255 (part_of p)
 steady_part p = record {

@@ -17,10 +17,11 @@ use Rattle.lg_netlist.specs.Cell.{State}
 use Rattle.lg_netlist.specs.Chain.{IsLongest}
 use Rattle.lg_netlist.specs.Static.{output_pins, word_on, AreStaticValues}
 use Rattle.lg_netlist.specs.Static as static
+use Rattle.lg_netlist.proofs.StaticRuns.{map_agrees}
 use Rattle.lg_sim.specs.InTime.{circuit_of}
 use Rattle.lg_sim.proofs.PartsInTime.{steady_parts}
 use Rattle.lg_sim.proofs.DrivenBits.{IsOutputBit, IsPinBit}
-use Rattle.lg_sim.proofs.StaticNets.{IsDriven, Stays, ShowsStatic, pin_is_static, output_is_static, same_bits}
+use Rattle.lg_sim.proofs.StaticNets.{IsDriven, Stays, ShowsStatic, pin_is_static, output_is_static}
 use Rattle.lg_sim.proofs.Arrival.{all_arrive, static_when_same, quiet_after}
 
 -- ---- the last stimulus
@@ -67,13 +68,12 @@ pub record Soon (n : Netlist) (stimuli : List Stimulus) (start longest limit : �
 -- what is read of some pins
 read_pins : (f value : ℕ → Bit) (pins : List PinUse) → ((place i net : ℕ) (pin : PinUse) → slice_get pins place ≡ Some pin → slice_get pin.bits i ≡ Some net → f net ≡ value net)
     → map (λ (nets : List ℕ). map f nets) (map (λ (p : PinUse). p.bits) pins) ≡ map (λ (p : PinUse). word_on value p.bits) pins
-read_pins f value [] same = refl
-read_pins f value (p ∷ pins) same =
-    cons_words (map f p.bits) (word_on value p.bits) (map (λ (nets : List ℕ). map f nets) (map (λ (q : PinUse). q.bits) pins)) (map (λ (q : PinUse). word_on value q.bits) pins)
-    (same_bits f value p.bits (λ i net there. same 0 i net p refl there)) (read_pins f value pins (λ place i net pin is_pin there. same (suc place) i net pin is_pin there))
+read_pins f value pins same =
+    read_each pins ∙ map_agrees (λ (p : PinUse). word_on f p.bits) (λ (p : PinUse). word_on value p.bits) pins (λ place pin is_pin. map_agrees f value pin.bits (λ i net is_bit. same place i net pin is_pin is_bit))
   where
-    cons_words : (a b : Word) (xs ys : List Word) → a ≡ b → xs ≡ ys → a ∷ xs ≡ b ∷ ys
-    cons_words a b xs ys e h = cc
+    read_each : (ps : List PinUse) → map (λ (nets : List ℕ). map f nets) (map (λ (p : PinUse). p.bits) ps) ≡ map (λ (p : PinUse). word_on f p.bits) ps
+    read_each [] = refl
+    read_each (p ∷ ps) = ap (λ (words : List Word). map f p.bits ∷ words) (read_each ps)
 
 -- a settled stimulus shows the static values
 outputs_when_settled : (n : Netlist) (stimuli : List Stimulus) (start : ℕ) (s : Stimulus) (states : List State) (value : ℕ → Bit) (longest settled : ℕ)

@@ -1,5 +1,5 @@
 -- Where the parts of an accepted netlist show what they answer to static values, each driven net has its static value.
-use Rattle.std.proofs.Common.{◌≡◌, ℕ, suc, ◌≤◌, true, List, [], ◌∷◌, length, map, Option, Some, refl, sym, ap, subst, ◌∙◌, inl, inr, ◌⊎◌}
+use Rattle.std.proofs.Common.{◌≡◌, ℕ, ◌≤◌, true, List, [], length, Some, sym, ap, subst, ◌∙◌, inl, inr, ◌⊎◌}
 use Rattle.std.specs.Prelude.{slice_get}
 use Rattle.std.specs.Option.{option_map}
 use Rattle.std.proofs.lemmas.Option.{slice_get-map, none-some}
@@ -11,10 +11,9 @@ use Rattle.lg_netlist.specs.declared.netlist.PinUse.{PinUse}
 use Rattle.lg_netlist.specs.declared.netlist.Netlist.{Netlist}
 use Rattle.lg_netlist.specs.Cell.{State, cell_word}
 use Rattle.lg_netlist.specs.Drivers.{drivers}
-use Rattle.lg_netlist.specs.Static as static
 use Rattle.lg_netlist.specs.Static.{input_pins, output_pins, word_on, inputs_of, state_of, Carries, AreStaticValues, has_no_clock}
+use Rattle.lg_netlist.proofs.CellFacts.{cell_word-state}
 use Rattle.lg_sim.specs.InTime.{part_of, circuit_of}
-use Rattle.lg_sim.proofs.PartsInTime.{cell_word-any}
 use Rattle.lg_sim.proofs.DrivenBits.{IsOutputBit, IsPinBit, output_carries, pin_carries}
 
 -- what an accepted netlist without clocks says of the nets that are read: no net has two drivers, and each that a part or an
@@ -71,31 +70,8 @@ pub output_is_static : (n : Netlist) (stimuli : List Stimulus) (start : ℕ) (s 
     → (o : IsOutputBit n net) → ShowsStatic n stimuli value t o.part o.output → value_at (circuit_of n) stimuli t net ≡ value net
 output_is_static n stimuli start s states value stays t net begun o shows =
     let word : Word = static_word value o.used o.output in
-    let any : cell_word o.used.cell (state_of states o.part) (inputs_of value o.used) o.output ≡ word = cell_word-any o.used.cell (state_of states o.part) [] (inputs_of value o.used) o.output in
+    let any : cell_word o.used.cell (state_of states o.part) (inputs_of value o.used) o.output ≡ word = cell_word-state o.used.cell (state_of states o.part) [] (inputs_of value o.used) o.output in
     let carried : Carries value o.bits word = subst (Carries value o.bits) any (stays.values.parts o.part o.used o.is_part o.output o.bits o.is_output) in
     net_at n stimuli start s states value stays t net begun
     ∙ output_carries n s (timeline (circuit_of n) stimuli t) net (value net) word stays.driven.no_clock (stays.driven.few net) o (shows o.used o.bits o.is_part o.is_output)
     (bit_at value o.bits word o.bit net carried o.is_bit)
-
--- the same bits on what a list of nets has
-pub same_bits : (f g : ℕ → Bit) (bits : List ℕ) → ((i net : ℕ) → slice_get bits i ≡ Some net → f net ≡ g net) → map f bits ≡ map g bits
-same_bits f g [] same = refl
-same_bits f g (net ∷ bits) same = cons_bits (f net) (g net) (map f bits) (map g bits) (same 0 net refl) (same_bits f g bits (λ i k there. same (suc i) k there))
-  where
-    cons_bits : (a b : Bit) (xs ys : List Bit) → a ≡ b → xs ≡ ys → a ∷ xs ≡ b ∷ ys
-    cons_bits a b xs ys e h = cc
-
--- and on the inputs of a part
-pub same_inputs : (f g : ℕ → Bit) (ports : List (List ℕ)) → ((input i net : ℕ) (bits : List ℕ) → slice_get ports input ≡ Some bits → slice_get bits i ≡ Some net → f net ≡ g net)
-    → map (static.word_at f) ports ≡ map (static.word_at g) ports
-same_inputs f g [] same = refl
-same_inputs f g (port ∷ ports) same =
-    cons_words (static.word_at f port) (static.word_at g port) (map (static.word_at f) ports) (map (static.word_at g) ports) (same_port port (λ i net there. same 0 i net port refl there))
-    (same_inputs f g ports (λ input i net bits is_port there. same (suc input) i net bits is_port there))
-  where
-    same_port : (bits : List ℕ) → ((i net : ℕ) → slice_get bits i ≡ Some net → f net ≡ g net) → static.word_at f bits ≡ static.word_at g bits
-    same_port [] alike = refl
-    same_port (bit ∷ bits) alike = ap Some (same_bits f g (bit ∷ bits) alike)
-
-    cons_words : (a b : Option Word) (xs ys : List (Option Word)) → a ≡ b → xs ≡ ys → a ∷ xs ≡ b ∷ ys
-    cons_words a b xs ys e h = cc

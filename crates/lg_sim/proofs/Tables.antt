@@ -12,9 +12,9 @@ use Rattle.lg_netlist.specs.declared.netlist.Netlist.{Netlist}
 use Rattle.lg_netlist.specs.Cell.{State}
 use Rattle.lg_netlist.specs.Chain.{IsLongest}
 use Rattle.lg_netlist.specs.Static.{input_pins, has_no_clock, start_states, states_after, AreTheStaticValues, AreStaticRows, IsDefinedRow}
+use Rattle.lg_netlist.proofs.StaticLemmas.{no_clock_nets}
 use Rattle.lg_sim.specs.InTime.{circuit_of}
 use Rattle.lg_sim.specs.Settled.{SettlesOnRows}
-use Rattle.lg_sim.proofs.DrivenBits.{no_clock_nets}
 use Rattle.lg_sim.proofs.StaticNets.{IsDriven}
 use Rattle.lg_sim.proofs.SettlesSoon.{extended, extended_stays, row_settles}
 
