@@ -1,27 +1,53 @@
 //! What is exported, as text.
 
+mod netlists;
+
 use crate::layout::export;
-use lg_netlist::Netlist;
-use lg_text::Text;
-use sqlite_items::Items;
+use lg_netlist::Cell;
+use netlists::{Gate, Pin, netlist};
 use std::test::Fail;
 
+const CASES: [(&'static [Pin], &'static [Gate], &'static str); 4] = [
+    (&[], &[], "module c_main(\n);\nendmodule\n"),
+    // Each bit of a pin goes to a gate of its own, and from there to a bit of another pin.
+    (
+        &[(true, "A", &[0, 1, 2, 3]), (false, "Y", &[4, 5, 6, 7])],
+        &[
+            (Cell::Not, &[Some(0)], Some(4)),
+            (Cell::Not, &[Some(1)], Some(5)),
+            (Cell::Not, &[Some(2)], Some(6)),
+            (Cell::Not, &[Some(3)], Some(7)),
+        ],
+        "module c_main(\n  input wire [3:0] i_A,\n  output wire [3:0] o_Y\n);\n  wire x0_0;\n  wire w0_0;\n  wire x1_0;\n  wire w1_0;\n  wire x2_0;\n  wire w2_0;\n  wire x3_0;\n  wire w3_0;\n  assign x0_0 = i_A[0];\n  assign w0_0 = (~x0_0);\n  assign x1_0 = i_A[1];\n  assign w1_0 = (~x1_0);\n  assign x2_0 = i_A[2];\n  assign w2_0 = (~x2_0);\n  assign x3_0 = i_A[3];\n  assign w3_0 = (~x3_0);\n  assign o_Y = {w3_0, w2_0, w1_0, w0_0};\nendmodule\n",
+    ),
+    // Bits of a pin: two in a row, all, the other way round, and with one left out.
+    (
+        &[
+            (true, "A", &[0, 1, 2, 3]),
+            (false, "P", &[1, 2]),
+            (false, "Q", &[0, 1, 2, 3]),
+            (false, "R", &[3, 2, 1, 0]),
+            (false, "S", &[0, 1, 3]),
+        ],
+        &[],
+        "module c_main(\n  input wire [3:0] i_A,\n  output wire [1:0] o_P,\n  output wire [3:0] o_Q,\n  output wire [3:0] o_R,\n  output wire [2:0] o_S\n);\n  assign o_P = i_A[2:1];\n  assign o_Q = i_A;\n  assign o_R = {i_A[0], i_A[1], i_A[2], i_A[3]};\n  assign o_S = {i_A[3], i_A[1:0]};\nendmodule\n",
+    ),
+    // One of two inputs is attached.
+    (
+        &[(true, "A", &[0]), (false, "Y", &[1])],
+        &[(Cell::And, &[Some(0), None], Some(1))],
+        "module c_main(\n  input wire i_A,\n  output wire o_Y\n);\n  wire x0_0;\n  wire w0_0;\n  assign x0_0 = i_A;\n  assign w0_0 = x0_0;\n  assign o_Y = w0_0;\nendmodule\n",
+    ),
+];
+
 #[test]
-fn circuit_without_components(rt: HostRuntime) -> Result<(), Fail> {
+fn modules_as_text(rt: HostRuntime) -> Result<(), Fail> {
     let alloc = rt.alloc();
-    let netlist = Netlist {
-        circuit: Text::copy_of(alloc, "main")?,
-        parts: Items::new(alloc),
-        pins: Items::new(alloc),
-        clocks: Items::new(alloc),
-        nets: 0,
-        clock_pin: None,
-    };
-    let module = export(alloc, &netlist)?;
-    let text = lg_verilog::print(alloc, &module)?;
-    assert_eq!(rt;
-        text.as_slice(),
-        b"module c_main(\n);\nendmodule\n".as_slice()
-    );
+    for (pins, gates, expected) in CASES {
+        let netlist = netlist(&rt, alloc, pins, gates)?;
+        let module = export(alloc, &netlist)?;
+        let text = lg_verilog::print(alloc, &module)?;
+        assert_eq!(rt; text.as_slice(), expected.as_bytes());
+    }
     Ok(())
 }
