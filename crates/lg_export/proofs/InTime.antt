@@ -6,7 +6,7 @@ use Rattle.lg_timing.specs.Session.{Line}
 use Rattle.lg_netlist.specs.declared.netlist.Netlist.{Netlist}
 use Rattle.lg_netlist.specs.Acceptance.{IsAccepted}
 use Rattle.lg_netlist.specs.Static.{has_no_clock}
-use Rattle.lg_sim.proofs.Settles.{settles_on_rows}
+use Rattle.lg_sim.proofs.SettlesOnRows.{settles_on_rows}
 use Rattle.lg_export.specs.InTime.{AgreesInTime}
 use Rattle.lg_export.specs.Layout.{module_of}
 use Rattle.lg_export.proofs.Agreeing.{from_start}
