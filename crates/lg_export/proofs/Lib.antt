@@ -18,3 +18,4 @@ pub mod Acyclic
 pub mod Solves
 pub mod Agreeing
 pub mod InTime
+pub mod Shallow
