@@ -3,4 +3,19 @@ pub mod NameLemmas
 pub mod WireNames
 pub mod FirstDrivers
 pub mod Runs
-mod Accepted
+pub mod Items
+pub mod Pins
+pub mod Named
+pub mod Declared
+pub mod Equations
+pub mod Given
+pub mod Gates
+pub mod Answered
+pub mod Accepted
+pub mod Sources
+pub mod Valid
+pub mod Acyclic
+pub mod Solves
+pub mod Agreeing
+pub mod InTime
+pub mod Shallow

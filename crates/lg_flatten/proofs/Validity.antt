@@ -14,6 +14,7 @@ use Rattle.lg_netlist.specs.declared.netlist.PartUse.{PartUse}
 use Rattle.lg_netlist.specs.declared.netlist.PinUse.{PinUse}
 use Rattle.lg_netlist.specs.Names.{AreNames}
 use Rattle.lg_netlist.specs.Valid.{is_pin_name, IsPort, IsFittingPart, IsFittingPin, IsValid}
+use Rattle.lg_netlist.proofs.WidthLemmas.{inputs_have_widths, outputs_have_widths}
 use Rattle.lg_flatten.specs.declared.role.Role.{Role}
 use Rattle.lg_flatten.specs.declared.role.Role.TheVariants.{Pin, Gate}
 use Rattle.lg_flatten.specs.Uses.{Use, input_points, port_points, role_inputs}
@@ -30,8 +31,8 @@ flags_long (u ∷ more) attached e =
     omega (arith, all, own, others, length-append (map (takes_net u.1) (take (port_count u) attached)) (take_nets more (drop (port_count u) attached)), length-map (take (port_count u) attached) (takes_net u.1))
 
 port_from_bits : (count : ℕ) (flag : Bool) (bits : List ℕ) → IsBits count flag bits → IsPort count bits
-port_from_bits count true bits h = record { one_bit = omega (arith, h.0); on_nets = h.1 }
-port_from_bits count false bits h = record { one_bit = omega (arith, h.0); on_nets = h.1 }
+port_from_bits count true bits h = record { few_bits = omega (arith, h.0); on_nets = h.1 }
+port_from_bits count false bits h = record { few_bits = omega (arith, h.0); on_nets = h.1 }
 
 ports_from_bits : (count : ℕ) (flags : List Bool) (ports : List (List ℕ)) → AllZip (IsBits count) flags ports → All (IsPort count) ports
 ports_from_bits count [] [] h = All-nil (IsPort count)
@@ -39,29 +40,45 @@ ports_from_bits count [] (bits ∷ ports) h = absurd h
 ports_from_bits count (flag ∷ flags) [] h = absurd h
 ports_from_bits count (flag ∷ flags) (bits ∷ ports) h = All-cons (IsPort count) bits ports (port_from_bits count flag bits h.0) (ports_from_bits count flags ports h.1)
 
+one_bit_at_most : (count : ℕ) (flag : Bool) (bits : List ℕ) → IsBits count flag bits → length bits ≤ 1
+one_bit_at_most count true bits h = omega (arith, h.0)
+one_bit_at_most count false bits h = omega (arith, h.0)
+
+few_from_bits : (count : ℕ) (flags : List Bool) (ports : List (List ℕ)) → AllZip (IsBits count) flags ports → All (λ bits. length bits ≤ 1) ports
+few_from_bits count [] [] h = All-nil (λ (bits : List ℕ). length bits ≤ 1)
+few_from_bits count [] (bits ∷ ports) h = absurd h
+few_from_bits count (flag ∷ flags) [] h = absurd h
+few_from_bits count (flag ∷ flags) (bits ∷ ports) h = All-cons (λ (bits : List ℕ). length bits ≤ 1) bits ports (one_bit_at_most count flag bits h.0) (few_from_bits count flags ports h.1)
+
 one_part : (count : ℕ) (p : PartUse) → IsFittingPart count p → All (IsFittingPart count) (p ∷ [])
 one_part count p h = All-cons (IsFittingPart count) p [] h (All-nil (IsFittingPart count))
 
-role_part_fits : (circuit : List ℕ) (count : ℕ) (c : Comp) (r : Role) (ports : List (List ℕ)) → All (IsPort count) ports → length ports ≡ length (port_points (c, r))
+role_part_fits : (circuit : List ℕ) (count : ℕ) (c : Comp) (r : Role) (ports : List (List ℕ)) → All (IsPort count) ports → All (λ bits. length bits ≤ 1) ports → length ports ≡ length (port_points (c, r))
     → All (IsFittingPart count) (role_part circuit c (length (role_inputs c.loc r)) ports r)
-role_part_fits circuit count c (Pin input) ports all long = All-nil (IsFittingPart count)
-role_part_fits circuit count c (Gate cell.Not size) ports all long = one_part count _ (record {
+role_part_fits circuit count c (Pin input) ports all few long = All-nil (IsFittingPart count)
+role_part_fits circuit count c (Gate cell.Not size) ports all few long = one_part count _ (record {
   takes = let one = length-take-le 1 ports (omega (arith, long)) in (omega (arith, one), omega (arith, one));
   gives = omega (arith, long, length-drop 1 ports);
   inputs = All-take (IsPort count) 1 ports all;
   outputs = All-drop (IsPort count) 1 ports all;
+  input_widths = inputs_have_widths cell.Not (take 1 ports) (All-take (λ (bits : List ℕ). length bits ≤ 1) 1 ports few);
+  output_widths = outputs_have_widths cell.Not (drop 1 ports) (All-drop (λ (bits : List ℕ). length bits ≤ 1) 1 ports few);
 })
-role_part_fits circuit count c (Gate cell.And size) ports all long = one_part count _ (record {
+role_part_fits circuit count c (Gate cell.And size) ports all few long = one_part count _ (record {
   takes = let two = length-take-le 2 ports (omega (arith, long)) in (omega (arith, two), omega (arith, two));
   gives = omega (arith, long, length-drop 2 ports);
   inputs = All-take (IsPort count) 2 ports all;
   outputs = All-drop (IsPort count) 2 ports all;
+  input_widths = inputs_have_widths cell.And (take 2 ports) (All-take (λ (bits : List ℕ). length bits ≤ 1) 2 ports few);
+  output_widths = outputs_have_widths cell.And (drop 2 ports) (All-drop (λ (bits : List ℕ). length bits ≤ 1) 2 ports few);
 })
-role_part_fits circuit count c (Gate cell.Or size) ports all long = one_part count _ (record {
+role_part_fits circuit count c (Gate cell.Or size) ports all few long = one_part count _ (record {
   takes = let two = length-take-le 2 ports (omega (arith, long)) in (omega (arith, two), omega (arith, two));
   gives = omega (arith, long, length-drop 2 ports);
   inputs = All-take (IsPort count) 2 ports all;
   outputs = All-drop (IsPort count) 2 ports all;
+  input_widths = inputs_have_widths cell.Or (take 2 ports) (All-take (λ (bits : List ℕ). length bits ≤ 1) 2 ports few);
+  output_widths = outputs_have_widths cell.Or (drop 2 ports) (All-drop (λ (bits : List ℕ). length bits ≤ 1) 2 ports few);
 })
 
 -- the flags and the net bits of one use's ports
@@ -82,7 +99,7 @@ parts_fit circuit count (u ∷ more) attached ports e h =
     let others = AllZip-second (IsBits count) (port_count u) (own_flags u attached) (take_nets more rest) ports long h in
     let own = take (port_count u) ports in
     All-append (IsFittingPart count) (role_part circuit u.0 (length (input_points u)) own u.1) (parts_of circuit more (drop (port_count u) ports))
-    (role_part_fits circuit count u.0 u.1 own (ports_from_bits count (own_flags u attached) own first) (AllZip-long (IsBits count) (own_flags u attached) own first ∙ long))
+    (role_part_fits circuit count u.0 u.1 own (ports_from_bits count (own_flags u attached) own first) (few_from_bits count (own_flags u attached) own first) (AllZip-long (IsBits count) (own_flags u attached) own first ∙ long))
     (parts_fit circuit count more rest (drop (port_count u) ports) (omega (arith, e, all, length-drop (port_count u) attached)) others)
 
 few_parts : (circuit : List ℕ) (comps : List Comp) (roles : List Role) (ports : List (List ℕ)) → length (parts_of circuit (zip comps roles) ports) ≤ length comps
@@ -130,7 +147,7 @@ role_pin_fits circuit count c (Pin input) [] attached (bits ∷ ports) named h =
 role_pin_fits circuit count c (Pin input) (name ∷ names) attached [] named h = All-nil (IsFittingPin count)
 role_pin_fits circuit count c (Pin input) (name ∷ names) [] (bits ∷ ports) named h = absurd h
 role_pin_fits circuit count c (Pin input) (name ∷ names) (a ∷ attached) (bits ∷ ports) named h =
-    one_pin count _ (record { named = All-head IsName name names named; one_bit = h.0.0; on_nets = h.0.1 })
+    one_pin count _ (record { named = All-head IsName name names named; some_bits = omega (arith, h.0.0); few_bits = omega (arith, h.0.0); on_nets = h.0.1 })
 role_pin_fits circuit count c (Gate cell size) [] attached [] named h = All-nil (IsFittingPin count)
 role_pin_fits circuit count c (Gate cell size) [] attached (bits ∷ ports) named h = All-nil (IsFittingPin count)
 role_pin_fits circuit count c (Gate cell size) (name ∷ names) attached [] named h = All-nil (IsFittingPin count)

@@ -1,15 +1,15 @@
 -- In an accepted netlist a driven net has one driver, and what is read is driven.
-use Rattle.std.proofs.Common.{◌≡◌, ℕ, zero, suc, ◌+◌, ◌<◌, ◌≤◌, Bool, true, false, not, cond, List, [], ◌∷◌, ◌++◌, length, get_or, refl, sym, subst, ap, ◌∙◌, arith, ◌⊎◌, inl, inr, Option, None, Some, if◌then◌else◌}
-use Rattle.std.specs.Prelude.{All, Contains, ◌==◌, ◌&&◌, ◌||◌, slice_get, codes}
+use Rattle.std.proofs.Common.{◌≡◌, ℕ, zero, suc, ◌+◌, ◌<◌, Bool, true, false, not, List, [], ◌∷◌, length, get_or, refl, sym, subst, ap, ◌∙◌, arith, Option, None, Some, if◌then◌else◌}
+use Rattle.std.specs.Prelude.{All, Contains, ◌==◌, ◌&&◌, slice_get, codes}
 use Rattle.std.specs.List.{list_any, range_with_len, enumerate_from}
 use Rattle.std.specs.Option.{option_or}
-use Rattle.std.proofs.lemmas.Bool.{or_parts, both_ways}
+use Rattle.std.proofs.lemmas.Bool.{or_parts}
 use Rattle.std.proofs.lemmas.List.Elements.{All-nil, All-cons}
 use Rattle.std.proofs.lemmas.List.FromFn.{get_or-range_with_len, length-range_with_len}
-use Rattle.std.proofs.lemmas.Option.{same_Some, get_or_from_slice_get, slice_get-get_or, slice_get_within}
-use Rattle.lg_netlist.specs.declared.acceptance.NotAccepted.{NotAccepted}
+use Rattle.std.proofs.lemmas.Option.{same_Some}
 use Rattle.lg_netlist.specs.declared.acceptance.NotAccepted.TheVariants as refusal
 use Rattle.lg_netlist.specs.declared.drivers.Driver.{Driver}
+use Rattle.lg_netlist.specs.declared.drivers.Driver.TheVariants.{Part, Pin, Clock}
 use Rattle.lg_netlist.specs.declared.netlist.PartUse.{PartUse}
 use Rattle.lg_netlist.specs.declared.netlist.PinUse.{PinUse}
 use Rattle.lg_netlist.specs.declared.netlist.Netlist.{Netlist}
@@ -17,7 +17,7 @@ use Rattle.lg_netlist.specs.Acceptance.{first_said, driver_name, contested_by, m
 use Rattle.lg_netlist.specs.Cell.{input_name}
 use Rattle.lg_netlist.specs.Drivers.{numbered, drivers}
 use Rattle.lg_netlist.specs.Valid.{IsPort, IsFittingPart, IsFittingPin}
-use Rattle.lg_netlist.proofs.DriverFacts.{All-at, IsSourceOf, driver_is, source_drives}
+use Rattle.lg_netlist.proofs.DriverFacts.{All-at, IsSourceOf, driver_is}
 
 none_said : {B : Type 0} (said : Option B) → ((b : B) → said ≡ Some b → ⊥) → said ≡ None
 none_said None never = refl
@@ -92,7 +92,7 @@ input_is_right n accepted part input p bits is_part is_input =
     let part_none : undriven_part n p ≡ None = All-at (λ (p : PartUse). undriven_part n p ≡ None) n.parts part p (said_of_none (undriven_part n) n.parts (none_undriven n accepted).0) is_part in
     let same : 0 + input ≡ input = omega arith in
     let input_none : undriven_input n p (input, bits) ≡ None =
-        All-at (λ (i : ℕ × List ℕ). undriven_input n p i ≡ None) (numbered p.inputs) input (input, bits) (said_of_none (undriven_input n p) (numbered p.inputs) part_none) (numbered_at 0 p.inputs input bits is_input ∙ ap (λ (i : ℕ). Some (i, bits)) same) in
+    All-at (λ (i : ℕ × List ℕ). undriven_input n p i ≡ None) (numbered p.inputs) input (input, bits) (said_of_none (undriven_input n p) (numbered p.inputs) part_none) (numbered_at 0 p.inputs input bits is_input ∙ ap (λ (i : ℕ). Some (i, bits)) same) in
     not_if (reads_undriven n p input bits) (refusal.Undriven p.name (input_name p.cell input)) input_none
 
 none_of_any : (test : ℕ → Bool) (bits : List ℕ) (bit net : ℕ) → list_any test bits ≡ false → slice_get bits bit ≡ Some net → test net ≡ false
@@ -100,22 +100,45 @@ none_of_any test [] bit net h e = absurd (cc)
 none_of_any test (b ∷ bits) zero net h e = subst (λ (k : ℕ). test k ≡ false) (same_Some b net e) (or_parts (test b) (list_any test bits) h).0
 none_of_any test (b ∷ bits) (suc bit) net h e = none_of_any test bits bit net (or_parts (test b) (list_any test bits) h).1 e
 
-pub part_fits : (n : Netlist) (part : ℕ) (p : PartUse) → slice_get n.parts part ≡ Some p → IsFittingPart n.nets p
-part_fits n part p is_part = All-at (IsFittingPart n.nets) n.parts part p n.valid.parts_fit is_part
+pub part_at_fits : (n : Netlist) (part : ℕ) (p : PartUse) → slice_get n.parts part ≡ Some p → IsFittingPart n.nets p
+part_at_fits n part p is_part = All-at (IsFittingPart n.nets) n.parts part p n.valid.parts_fit is_part
 
-pub pin_fits : (n : Netlist) (pin : ℕ) (p : PinUse) → slice_get n.pins pin ≡ Some p → IsFittingPin n.nets p
-pin_fits n pin p is_pin = All-at (IsFittingPin n.nets) n.pins pin p n.valid.pins_fit is_pin
+pub pin_at_fits : (n : Netlist) (pin : ℕ) (p : PinUse) → slice_get n.pins pin ≡ Some p → IsFittingPin n.nets p
+pin_at_fits n pin p is_pin = All-at (IsFittingPin n.nets) n.pins pin p n.valid.pins_fit is_pin
 
 pub input_net : (n : Netlist) (part input bit net : ℕ) (p : PartUse) (bits : List ℕ) → slice_get n.parts part ≡ Some p → slice_get p.inputs input ≡ Some bits → slice_get bits bit ≡ Some net → net < n.nets
 input_net n part input bit net p bits is_part is_input is_bit =
-    All-at (λ (net : ℕ). net < n.nets) bits bit net (All-at (IsPort n.nets) p.inputs input bits (part_fits n part p is_part).inputs is_input).on_nets is_bit
+    All-at (λ (net : ℕ). net < n.nets) bits bit net (All-at (IsPort n.nets) p.inputs input bits (part_at_fits n part p is_part).inputs is_input).on_nets is_bit
 
 pub output_net : (n : Netlist) (part output bit net : ℕ) (p : PartUse) (bits : List ℕ) → slice_get n.parts part ≡ Some p → slice_get p.outputs output ≡ Some bits → slice_get bits bit ≡ Some net → net < n.nets
 output_net n part output bit net p bits is_part is_output is_bit =
-    All-at (λ (net : ℕ). net < n.nets) bits bit net (All-at (IsPort n.nets) p.outputs output bits (part_fits n part p is_part).outputs is_output).on_nets is_bit
+    All-at (λ (net : ℕ). net < n.nets) bits bit net (All-at (IsPort n.nets) p.outputs output bits (part_at_fits n part p is_part).outputs is_output).on_nets is_bit
 
 pub pin_net : (n : Netlist) (pin bit net : ℕ) (p : PinUse) → slice_get n.pins pin ≡ Some p → slice_get p.bits bit ≡ Some net → net < n.nets
-pin_net n pin bit net p is_pin is_bit = All-at (λ (net : ℕ). net < n.nets) p.bits bit net (pin_fits n pin p is_pin).on_nets is_bit
+pin_net n pin bit net p is_pin is_bit = All-at (λ (net : ℕ). net < n.nets) p.bits bit net (pin_at_fits n pin p is_pin).on_nets is_bit
+
+pub source_net : (n : Netlist) (d : Driver) (net : ℕ) → IsSourceOf n d net → net < n.nets
+source_net n (Part part output bit) net (p, bits, is_part, is_output, is_bit) = output_net n part output bit net p bits is_part is_output is_bit
+source_net n (Pin pin bit) net (p, is_pin, input, is_bit) = pin_net n pin bit net p is_pin is_bit
+source_net n (Clock clock) net (c, is_clock, on) = subst (λ (k : ℕ). k < n.nets) on (All-at (λ (c : ℕ × List ℕ). c.0 < n.nets) n.clocks clock c n.valid.clocks_fit is_clock)
+
+-- a net's only driver, which is on it
+pub record HasDriver (n : Netlist) (net : ℕ) : Type 0 where
+  pub driver : Driver
+  pub alone : drivers n net ≡ driver ∷ []
+  pub source : IsSourceOf n driver net
+
+pub has_driver : (n : Netlist) → IsAccepted n → (net : ℕ) → is_undriven n net ≡ false → HasDriver n net
+has_driver n accepted net driven = by_drivers (drivers n net) refl
+  where
+    only : (one : (d : Driver) × (drivers n net ≡ d ∷ [])) → HasDriver n net
+    only one = record { driver = one.0; alone = one.1; source = subst (λ (ds : List Driver). All (λ d. IsSourceOf n d net) ds) one.1 (driver_is n net) 0 one.0 (omega arith) }
+
+    by_drivers : (ds : List Driver) → drivers n net ≡ ds → HasDriver n net
+    by_drivers [] e = let no : true ≡ false = sym (ap (λ (ds : List Driver). length ds == 0) e) ∙ driven in absurd (cc)
+    by_drivers (d ∷ more) e =
+        let source : IsSourceOf n d net = subst (λ (ds : List Driver). All (λ d. IsSourceOf n d net) ds) e (driver_is n net) 0 d (omega arith) in
+        only (one_driver n accepted net (source_net n d net source) driven)
 
 -- something drives each net of an attached input of a part
 pub read_is_driven : (n : Netlist) → IsAccepted n → (part input bit net : ℕ) (p : PartUse) (bits : List ℕ) → slice_get n.parts part ≡ Some p → slice_get p.inputs input ≡ Some bits → slice_get bits bit ≡ Some net

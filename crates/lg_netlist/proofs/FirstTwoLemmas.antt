@@ -1,6 +1,6 @@
 -- The first two drivers of each net, driver by driver.
-use Rattle.std.proofs.Common.{◌≡◌, ℕ, ◌+◌, ◌<◌, ◌≤◌, Bool, true, false, List, [], ◌∷◌, ◌++◌, length, get_or, set, refl, sym, subst, ap, ◌∙◌, arith, cond, ◌⊎◌, inl, inr, Option, None, Some}
-use Rattle.std.specs.Prelude.{All, ◌==◌, map, filter, replicate, slice_get}
+use Rattle.std.proofs.Common.{◌≡◌, ℕ, ◌<◌, List, [], ◌∷◌, ◌++◌, get_or, set, refl, sym, subst, ap, ◌∙◌, arith, ◌⊎◌, inl, inr, None}
+use Rattle.std.specs.Prelude.{◌==◌, map, filter, replicate, slice_get}
 use Rattle.std.specs.List.{range_with_len}
 use Rattle.std.proofs.lemmas.Bool.{cases_eq, eq-eqb, ne_eqb, cond-true, cond-false}
 use Rattle.std.proofs.lemmas.List.{map-append, append-nil, get_or-set_same, get_or-set_other, get_or-replicate, get_or-map, length-set, length-map, length-replicate}

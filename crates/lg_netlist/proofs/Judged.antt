@@ -1,18 +1,18 @@
 -- Each netlist is accepted, or refused for some reason.
-use Rattle.std.proofs.Common.{◌≡◌, ℕ, zero, suc, ◌+◌, ◌<◌, ◌≤◌, List, [], ◌∷◌, length, refl, sym, subst, ap, ◌∙◌, arith, ◌⊎◌, inl, inr, Option, None, Some}
+use Rattle.std.proofs.Common.{◌≡◌, ℕ, zero, suc, ◌+◌, ◌<◌, ◌≤◌, List, [], length, refl, sym, subst, ap, ◌∙◌, arith, ◌⊎◌, inl, inr, Option, None, Some}
 use Rattle.std.specs.Prelude.{slice_get, Contains}
 use Rattle.std.proofs.lemmas.Bool.{cases_lt, cases_order}
 use Rattle.std.proofs.lemmas.List.{get_or_past}
-use Rattle.std.proofs.lemmas.Option.{same_Some, slice_get-get_or, slice_get_within}
+use Rattle.std.proofs.lemmas.Option.{same_Some, slice_get_within}
 use Rattle.lg_graph.specs.Graph.{HasArrow, Leads}
 use Rattle.lg_netlist.specs.declared.acceptance.NotAccepted.{NotAccepted}
 use Rattle.lg_netlist.specs.declared.acceptance.NotAccepted.TheVariants as refusal
 use Rattle.lg_netlist.specs.declared.netlist.Netlist.{Netlist}
-use Rattle.lg_netlist.specs.Acceptance.{Condition, ManyDrivers, Undriven, Cycle, Refuses, IsRefused, IsAccepted, many_drivers, undriven, IsCycle}
-use Rattle.lg_netlist.specs.Chain.{Output, IsOutput, IsOnCycle, IsFirstOnCycle}
+use Rattle.lg_netlist.specs.Acceptance.{Condition, ManyDrivers, Undriven, Cycle, Refuses, IsRefused, IsAccepted, many_drivers, undriven}
+use Rattle.lg_netlist.specs.Chain.{Output, IsOnCycle, IsFirstOnCycle}
 use Rattle.lg_netlist.specs.Graph.{all_outputs, net_graph, IsNetGraph}
 use Rattle.lg_netlist.proofs.NetGraphLemmas.{IsNetGraph-made, nothing}
-use Rattle.lg_netlist.proofs.OutputLemmas.{output_at, output_listed, parts_rise}
+use Rattle.lg_netlist.proofs.OutputLemmas.{output_listed, parts_rise}
 use Rattle.lg_netlist.proofs.CycleLemmas.{cycle_leads, leads_cycle}
 use Rattle.lg_netlist.proofs.OrderLemmas.{arrow_inside, cycle_output}
 use Rattle.lg_netlist.proofs.Ways.{leads_or_not}

@@ -22,3 +22,6 @@ pub mod Judged
 pub mod DriverFacts
 pub mod AcceptedFacts
 pub mod Ranks
+pub mod CellFacts
+pub mod StaticRuns
+pub mod StaticLemmas

@@ -3,7 +3,6 @@ pub mod NextNumbers
 pub mod Numbering
 pub mod Cell
 pub mod Valid
-pub mod OneGate
 pub mod Static
 pub mod Drivers
 pub mod FirstTwo

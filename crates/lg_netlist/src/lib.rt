@@ -17,8 +17,8 @@ pub use acceptance::NotAccepted;
 pub use cell::Loose;
 pub use drivers::Driver;
 pub use law::{
-    labels_have_names, labels_have_numbers, netlists_are_judged, one_naming, one_numbering,
-    one_refusal,
+    accepted_netlists_have_static_values, labels_have_names, labels_have_numbers,
+    netlists_are_judged, one_naming, one_numbering, one_refusal,
 };
 pub use names::{LONGEST_NAME, name_of_label, pin_names};
 pub use netlist::{Cell, Netlist, PartUse, PinUse};

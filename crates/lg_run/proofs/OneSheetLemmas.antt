@@ -6,7 +6,7 @@ use Rattle.lg_circ.specs.declared.project.Comp.{Comp}
 use Rattle.lg_circ.specs.declared.project.Sheet.{Sheet}
 use Rattle.lg_circ.specs.declared.project.Project.{Project}
 use Rattle.lg_netlist.specs.declared.netlist.Netlist.{Netlist}
-use Rattle.lg_netlist.specs.OneGate.{has_no_clock}
+use Rattle.lg_netlist.specs.Static.{has_no_clock}
 use Rattle.lg_flatten.specs.declared.role.Role.{Role}
 use Rattle.lg_flatten.specs.Uses.{roles_of}
 use Rattle.lg_flatten.specs.Flat.{IsNetlistOf}

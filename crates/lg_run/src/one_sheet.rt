@@ -5,7 +5,7 @@ ghost use Rattle.std.specs.Str.{bytes_eq};
 ghost use Rattle.std.specs.Prelude.{ℕ, List, true, option_map, unwrap_or, ◌≡◌, ◌+◌, ◌*◌, ◌<◌, ◌^◌, length, All, IsTrue, IfOk, IsErrOf};
 ghost use Rattle.std.specs.List.{list_all};
 ghost use Rattle.lg_circ.specs.Straight.{is_straight};
-ghost use Rattle.lg_netlist.specs.OneGate.{has_no_clock};
+ghost use Rattle.lg_netlist.specs.Static.{has_no_clock};
 ghost use Rattle.lg_run.specs.OneSheet.{IsBuilt, IsOnlyBuilt, IsNotBuilt, opens_with};
 ghost use Rattle.lg_run.specs.declared.one_sheet.EarlyFault.TheVariants.{Memory};
 

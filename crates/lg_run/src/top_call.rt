@@ -30,9 +30,9 @@ pub fn run<F: Files, O: Sink, E: Sink>(
     // Where the files tell what they hold, the output has taken the due text and nothing else ..
     ensures done { result ≡ Status.Done → IfSome (F.seen files.old).held
         (λ held. WroteDue (words_of words.now) held result (O.seen out.old) (O.seen out.new)) }
-    // .. which is that of a module whose outputs, of a one-gate circuit, are the static values on each row of defined
-    // inputs; and each list of such rows has exactly one session table, in which each row settles in at most one instant,
-    // on the module's outputs.
+    // .. which is that of a valid module whose outputs, on each list of rows of defined inputs, are those of the static
+    // rows; and such rows have exactly one session table, in which each row settles within the longest chain's delay, on
+    // the module's outputs.
     ensures agrees { result ≡ Status.Done → IfSome (F.seen files.old).held
         (λ held. WroteAgreed (words_of words.now) held (O.seen out.old) (O.seen out.new)) }
 

@@ -32,6 +32,26 @@ fn parts_drive_before_pins_and_clocks(rt: HostRuntime) -> Result<(), Fail> {
     Ok(())
 }
 
+#[test]
+fn nets_have_first_drivers(rt: HostRuntime) -> Result<(), Fail> {
+    let netlist = netlist(&rt, rt.alloc(), &[(true, 1)], TWO_ON_ONE_NET, None)?;
+    let found = netlist.first_drivers(rt.alloc())?;
+    let input = Some(Driver::Pin { pin: 0, bit: 0 });
+    let first = Some(Driver::Part {
+        part: 0,
+        output: 0,
+        bit: 0,
+    });
+    let second = Some(Driver::Part {
+        part: 1,
+        output: 0,
+        bit: 0,
+    });
+    let expected = [None, input, second, first, None, None, None, None];
+    assert_eq!(rt; found.as_slice(), expected.as_slice());
+    Ok(())
+}
+
 const BACKWARDS: &[Gate] = &[
     (Cell::Not, &[Some(2)], Some(3)),
     (Cell::Not, &[Some(1)], Some(2)),

@@ -1,15 +1,13 @@
 -- The text is that of the project's module, or there is none.
 use Rattle.std.proofs.Common.{refl, sym, ap, subst, ◌∙◌}
-use Rattle.std.proofs.lemmas.Bool.{and_parts, leb-true}
 use Rattle.std.proofs.lemmas.Result.{err_from_is_err_and}
-use Rattle.std.specs.Prelude.{nat_le}
 use Rattle.lg_circ.specs.declared.project.Project.{Project}
-use Rattle.lg_circ.specs.declared.project.TheConstants.{GREATEST_LIMIT}
 use Rattle.lg_export.specs.Agreement.{Agrees}
 use Rattle.lg_export.specs.InTime.{AgreesInTime}
 use Rattle.lg_export.specs.Layout.{module_of}
 use Rattle.lg_netlist.specs.declared.netlist.Netlist.{Netlist}
 use Rattle.lg_verilog.specs.declared.module.Module.{Module}
+use Rattle.lg_verilog.specs.Grammar.{IsModuleText as IsTextOf}
 use Rattle.lg_verilog.specs.Printed.{module_text}
 use Rattle.lg_run.specs.OneSheet.{IsBuilt}
 use Rattle.lg_run.proofs.Making.{Makes-circ, Makes-early, Makes-not_accepted}
@@ -50,9 +48,9 @@ returns c =
             let same = c.in_ok-project.ensures.only t.project t.says c.in_ok-project.ensures.within in
             let one = c.in_ok-netlist.ensures.only t.netlist (subst (λ (p : Project). IsBuilt p t.netlist) (sym same) t.built) in
             t.printed ∙ (ap (λ (n : Netlist). module_text (module_of n)) one ∙ sym (c.in_ok-print.ensures.text ∙ ap module_text c.in_ok-module.ensures.layout));
-        agrees = λ one. subst (λ (m : Module). Agrees netlist m) c.in_ok-module.ensures.layout (c.in_ok-module.ensures.agrees one);
-        in_time = λ one rows defined.
-            subst (λ (m : Module). AgreesInTime netlist m) c.in_ok-module.ensures.layout (c.in_ok-module.ensures.in_time one)
-            project.limit (leb-true 1 project.limit (and_parts (nat_le 1 project.limit) (nat_le project.limit GREATEST_LIMIT) project.limit_in_range).0) rows defined;
+        in_grammar = subst (IsTextOf c.in_ok-print.text.items) c.in_ok-module.ensures.layout c.in_ok-print.ensures.read_again;
+        agrees = subst (λ (m : Module). Agrees netlist m) c.in_ok-module.ensures.layout c.in_ok-module.ensures.agrees;
+        in_time = λ longest is_longest enough rows defined.
+            subst (λ (m : Module). AgreesInTime netlist m) c.in_ok-module.ensures.layout c.in_ok-module.ensures.in_time longest project.limit is_longest enough rows defined;
       },
     )
