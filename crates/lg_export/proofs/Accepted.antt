@@ -14,7 +14,7 @@ use Rattle.lg_netlist.specs.Acceptance.{is_loose, lacks_input, reads_undriven, I
 use Rattle.lg_netlist.specs.Cell.{loose_of}
 use Rattle.lg_netlist.specs.Static.{has_no_clock, data_pins}
 use Rattle.lg_netlist.specs.Valid.{TakesInputs}
-use Rattle.lg_netlist.proofs.AcceptedFacts.{input_is_right, part_fits, pin_fits, read_is_driven, shown_is_driven}
+use Rattle.lg_netlist.proofs.AcceptedFacts.{input_is_right, part_at_fits, pin_at_fits, read_is_driven, shown_is_driven}
 use Rattle.lg_export.specs.Readable.{IsReadable, IsFed, CanBeLaidOut}
 use Rattle.lg_export.proofs.LayoutLemmas.{data_all}
 
@@ -57,7 +57,7 @@ fed n accepted part d less =
     let p = get_or n.parts part d in
     let is_part : slice_get n.parts part ≡ Some p = slice_get-get_or n.parts part d less in
     record {
-      has_input = some_attached 0 p.inputs (not_all_loose n p (part_fits n part p is_part).takes (λ bits is_input. input_is_right n accepted part 0 p bits is_part is_input));
+      has_input = some_attached 0 p.inputs (not_all_loose n p (part_at_fits n part p is_part).takes (λ bits is_input. input_is_right n accepted part 0 p bits is_part is_input));
       driven = λ input e inside some.
           let bits = get_or p.inputs input e in
           let is_input : slice_get p.inputs input ≡ Some bits = slice_get-get_or p.inputs input e inside in
@@ -72,7 +72,7 @@ pins_read : (n : Netlist) → IsAccepted n → All (λ (p : PinUse). not p.input
 pins_read n accepted pin d less output =
     let p = get_or n.pins pin d in
     let is_pin : slice_get n.pins pin ≡ Some p = slice_get-get_or n.pins pin d less in
-    let fits = pin_fits n pin p is_pin in
+    let fits = pin_at_fits n pin p is_pin in
     record {
       has_bit = omega (arith, fits.some_bits);
       driven = λ bit f within. (shown_is_driven n accepted pin bit (get_or p.bits bit f) p is_pin (is_false p.input output) (slice_get-get_or p.bits bit f within)).1;
