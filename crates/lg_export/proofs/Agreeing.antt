@@ -155,7 +155,7 @@ module _ (n : Netlist) (clockless : has_no_clock n ≡ true) (accepted : IsAccep
 
   -- ---- rows
 
-  some_rows : (states : List State) (rows : Rows) → AllByRecursion (IsDefinedRow (input_pins n)) rows → (outs : Rows) × AreStaticRows n states rows outs
+  pub some_rows : (states : List State) (rows : Rows) → AllByRecursion (IsDefinedRow (input_pins n)) rows → (outs : Rows) × AreStaticRows n states rows outs
   some_rows states [] defined = ([], tt)
   some_rows states (row ∷ rows) defined =
       let found = static_values n states row clockless accepted defined.0 in
@@ -191,7 +191,7 @@ module _ (n : Netlist) (clockless : has_no_clock n ≡ true) (accepted : IsAccep
 
   -- ---- all numbers are numbers of words
 
-  words_for : (pins : List PinUse) (row : List ℕ) → AreNumbers (map (λ (p : PinUse). (input_name p, length p.bits)) pins) row → (words : Words) × IsDefinedRow pins words × (map word_number words ≡ row)
+  pub words_for : (pins : List PinUse) (row : List ℕ) → AreNumbers (map (λ (p : PinUse). (input_name p, length p.bits)) pins) row → (words : Words) × IsDefinedRow pins words × (map word_number words ≡ row)
   words_for [] [] numbers = ([], tt, refl)
   words_for [] (k ∷ row) numbers = absurd numbers
   words_for (p ∷ pins) [] numbers = absurd numbers
