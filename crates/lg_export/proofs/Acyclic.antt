@@ -1,5 +1,5 @@
 -- Nothing in the module of an accepted netlist depends on itself: by the ranks of outputs, what an equation reads is given earlier.
-use Rattle.std.proofs.Common.{◌≡◌, ℕ, zero, suc, ◌+◌, ◌*◌, ◌^◌, ◌<◌, ◌≤◌, true, List, [], ◌∷◌, ◌++◌, length, map, Some, refl, sym, ap, subst, ◌∙◌, arith, inl, inr, ◌⊎◌}
+use Rattle.std.proofs.Common.{◌≡◌, ℕ, zero, suc, ◌+◌, ◌*◌, ◌^◌, ◌<◌, true, List, [], ◌∷◌, length, map, Some, refl, sym, ap, subst, ◌∙◌, arith, inl, inr, ◌⊎◌}
 use Rattle.std.specs.Prelude.{slice_get, Contains}
 use Rattle.std.specs.List.{flat_map}
 use Rattle.std.proofs.lemmas.Option.{slice_get_within, get_or_from_slice_get}
@@ -10,7 +10,7 @@ use Rattle.lg_netlist.specs.declared.netlist.PinUse.{PinUse}
 use Rattle.lg_netlist.specs.declared.netlist.Netlist.{Netlist}
 use Rattle.lg_netlist.specs.Acceptance.{IsAccepted}
 use Rattle.lg_netlist.specs.Cell.{reads}
-use Rattle.lg_netlist.specs.Chain.{IsOutput, Drives, Reads, Follows}
+use Rattle.lg_netlist.specs.Chain.{IsOutput, Follows}
 use Rattle.lg_netlist.specs.Graph.{all_outputs}
 use Rattle.lg_netlist.proofs.OutputLemmas.{output_listed}
 use Rattle.lg_netlist.proofs.Ranks.{HasRanks}
@@ -18,7 +18,6 @@ use Rattle.lg_netlist.specs.Static.{input_pins, output_pins, has_no_clock}
 use Rattle.lg_verilog.specs.declared.expr.Expr.{Expr}
 use Rattle.lg_verilog.specs.declared.expr.Expr.TheVariants as expr
 use Rattle.lg_verilog.specs.declared.module.Assign.{Assign}
-use Rattle.lg_verilog.specs.declared.module.Module.{Module}
 use Rattle.lg_vrules.specs.Depends.{names_read, IsChain, DependsOn, IsAcyclic}
 use Rattle.lg_vrules.specs.Depends as depends
 use Rattle.lg_vmeaning.specs.InOrder.{IsIn}
@@ -27,11 +26,11 @@ use Rattle.lg_export.proofs.Given.{x_assign, w_assign, o_assign, Given, OfInput,
 use Rattle.lg_export.proofs.Items.{IsItem, item_at, item_of_map, map_item, item_left, item_right, flat_item, numbered_at}
 use Rattle.lg_export.proofs.Equations.{wholes, equation_reads}
 use Rattle.lg_export.proofs.Named.{x_names, in_item, item_in, attached_is, few_inputs}
-use Rattle.lg_export.proofs.Pins.{IsPinOf, output_pin, part_fits}
+use Rattle.lg_export.proofs.Pins.{output_pin, part_fits}
 use Rattle.lg_export.proofs.Runs.{bits_read}
 use Rattle.lg_export.proofs.Sources.{Source, FromPin, FromPart, input_source, pin_source}
 use Rattle.lg_export.proofs.Valid.{first_of_part, wholes-are}
-use Rattle.lg_export.proofs.WireNames.{initial, initial-input_wire, initial-output_wire, initial-input_name, initial-output_name, apart, input_wire_same, output_wire_same}
+use Rattle.lg_export.proofs.WireNames.{initial-input_wire, initial-output_wire, initial-input_name, initial-output_name, apart, input_wire_same, output_wire_same}
 
 cell_reads : (c : Cell) (output input : ℕ) → reads c output input ≡ true
 cell_reads Not output input = refl
@@ -184,9 +183,9 @@ module _ (n : Netlist) (clockless : has_no_clock n ≡ true) (accepted : IsAccep
   along name (next ∷ more) last chain rank ranked = elim (step name next chain.0 rank ranked) [
     | inl input ↦ let b = first_reads next more last chain.1 in absurd (reads_no_input next b.0 b.1 input)
     | inr lower ↦ elim (along next more last chain.1 lower.0 lower.2) [
-        | inl input ↦ inl input
-        | inr lowest ↦ inr (lowest.0, omega (arith, lowest.1, lower.1), lowest.2, lowest.3)
-      ]
+      | inl input ↦ inl input
+      | inr lowest ↦ inr (lowest.0, omega (arith, lowest.1, lower.1), lowest.2, lowest.3)
+    ]
   ]
 
   never : (bound rank : ℕ) → rank < bound → (name : List ℕ) → Rank n r name rank → (over : List (List ℕ)) → IsChain (module_of n) name over name → ⊥

@@ -1,25 +1,24 @@
 -- The module of an accepted netlist agrees with it: it is valid, and row by row its outputs are those of the static values.
-use Rattle.std.proofs.Common.{◌≡◌, ℕ, zero, suc, ◌%◌, ◌^◌, ◌<◌, true, false, List, [], ◌∷◌, length, map, Option, None, Some, refl, sym, ap, subst, ◌∙◌, arith, inl, inr, ◌⊎◌}
+use Rattle.std.proofs.Common.{◌≡◌, ℕ, zero, suc, ◌<◌, true, false, List, [], ◌∷◌, length, map, Option, None, refl, sym, ap, subst, ◌∙◌, arith, inl, inr}
 use Rattle.std.proofs.Math.Nat.{mod-eq_of_lt}
-use Rattle.std.specs.Prelude.{filter_map, slice_get, zip}
+use Rattle.std.specs.Prelude.{filter_map, zip}
 use Rattle.std.specs.List.{AllByRecursion}
 use Rattle.lg_value.specs.declared.bit.Bit.{Bit}
 use Rattle.lg_value.specs.Word.{IsDefined, number_of as word_number, word_of_number}
 use Rattle.lg_value.proofs.WordLemmas.{length-word_of_number, number_of-word_of_number, IsDefined-word_of_number}
 use Rattle.lg_netlist.specs.declared.netlist.PinUse.{PinUse}
-use Rattle.lg_netlist.specs.declared.netlist.PartUse.{PartUse}
 use Rattle.lg_netlist.specs.declared.netlist.Netlist.{Netlist}
 use Rattle.lg_netlist.specs.Acceptance.{IsAccepted, is_undriven}
 use Rattle.lg_netlist.specs.Cell.{State}
 use Rattle.lg_netlist.specs.Static.{input_pins, output_pins, has_no_clock, word_on, start_states, states_after, output_words, AreStaticValues, AreTheStaticValues, AreStaticRows, IsDefinedRow}
 use Rattle.lg_netlist.proofs.Ranks.{HasRanks, ranks, none_on_cycle}
-use Rattle.lg_netlist.proofs.StaticLemmas.{AreStaticFor, static_values}
+use Rattle.lg_netlist.proofs.StaticLemmas.{static_values}
 use Rattle.lg_verilog.specs.declared.module.Assign.{Assign}
 use Rattle.lg_verilog.specs.declared.module.Decl.{Decl}
 use Rattle.lg_verilog.specs.declared.module.Module.{Module}
 use Rattle.lg_vrules.specs.declared.names.Sort.TheVariants as sort
 use Rattle.lg_vrules.specs.declared.names.Thing.{Thing}
-use Rattle.lg_vrules.specs.Things.{lines_of, names_of, is_input, is_output, is_memory, is_readable}
+use Rattle.lg_vrules.specs.Things.{lines_of, names_of, is_input, is_output, is_memory}
 use Rattle.lg_vmachine.specs.Kept.{Kept}
 use Rattle.lg_vmachine.specs.Meaning.{Valuation, number_of}
 use Rattle.lg_vmachine.proofs.TermLemmas.{reads_only}
@@ -27,7 +26,7 @@ use Rattle.lg_vmeaning.specs.InOrder.{IsIn}
 use Rattle.lg_vmeaning.specs.Rows.{start, start_number, start_memory, number_after, words_after, after_edge, AreRows}
 use Rattle.lg_vmeaning.specs.Solution.{AreNumbers, AreMemories, IsOf, IsSolution, AgreeOn, IsTheSolution}
 use Rattle.lg_export.specs.Agreement.{Rows, numbers_of, Agrees}
-use Rattle.lg_export.specs.Layout.{numbered, input_name, output_name, input_wire, output_wire, module_assigns, module_of}
+use Rattle.lg_export.specs.Layout.{input_name, output_wire, module_assigns, module_of}
 use Rattle.lg_export.proofs.Acyclic.{Rank, earlier, ranked, x_made, w_made, o_made, acyclic}
 use Rattle.lg_export.proofs.Declared.{pin_thing, x_thing, w_thing, all_things, line_of, inputs-are, input_names-are, readable-are, no_registers, no_memories}
 use Rattle.lg_export.proofs.Gates.{IsDefinedBit}
@@ -179,8 +178,12 @@ module _ (n : Netlist) (clockless : has_no_clock n ≡ true) (accepted : IsAccep
       let rest = follows (states_after n v states) rows outs defined.1 static in
       let val = valuation n states v in (
         (subst (AllByRecursion IsDefined) told (outputs_defined states row defined.0 v the.are sure), rest.0),
-        (val, solution states row defined.0 v the.are sure, row_gives states row defined.0 v the.are sure ∙ ap (map word_number) told,
-        subst (λ (kept : Kept). AreRows m kept (numbers_of rows) (numbers_of outs)) (sym (after-is val)) rest.1),
+        (
+          val,
+          solution states row defined.0 v the.are sure,
+          row_gives states row defined.0 v the.are sure ∙ ap (map word_number) told,
+          subst (λ (kept : Kept). AreRows m kept (numbers_of rows) (numbers_of outs)) (sym (after-is val)) rest.1,
+        ),
       )
 
   pub from_start : (rows outs : Rows) → AllByRecursion (IsDefinedRow (input_pins n)) rows → AreStaticRows n (start_states n) rows outs

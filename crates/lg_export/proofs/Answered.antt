@@ -1,11 +1,11 @@
 -- What a part answers to the static words of its inputs is what its equation says of their numbers.
-use Rattle.std.proofs.Common.{◌≡◌, ℕ, zero, suc, ◌+◌, ◌<◌, ◌≤◌, Bool, true, false, not, cond, List, [], ◌∷◌, ◌++◌, length, map, filter, None, Some, refl, sym, ap, subst, ◌∙◌, arith, inl, inr, ◌⊎◌}
+use Rattle.std.proofs.Common.{◌≡◌, ℕ, ◌+◌, ◌<◌, false, not, List, [], ◌∷◌, length, map, filter, refl, sym, ap, subst, ◌∙◌, arith}
 use Rattle.std.specs.Prelude.{◌==◌, Option, slice_index_or}
 use Rattle.std.specs.List.{AllByRecursion, enumerate_from}
 use Rattle.std.proofs.lemmas.Bool.{ne_eqb}
 use Rattle.lg_value.specs.declared.bit.Bit.{Bit}
-use Rattle.lg_value.specs.declared.bit.Bit.TheVariants.{Zero, One, Unknown}
-use Rattle.lg_value.specs.Bit.{digit_of, not_bit}
+use Rattle.lg_value.specs.declared.bit.Bit.TheVariants.{Unknown}
+use Rattle.lg_value.specs.Bit.{not_bit}
 use Rattle.lg_value.specs.Word.{number_of}
 use Rattle.lg_gates.specs.declared.gates.GateKind.{GateKind}
 use Rattle.lg_gates.specs.declared.gates.GateKind.TheVariants as kind
@@ -19,9 +19,8 @@ use Rattle.lg_netlist.specs.Cell.{State, cell_word}
 use Rattle.lg_netlist.specs.Static.{word_on, word_at, inputs_of}
 use Rattle.lg_netlist.specs.Valid.{TakesInputs}
 use Rattle.lg_vmachine.specs.Meaning.{Valuation}
-use Rattle.lg_export.specs.Layout.{numbered, input_wire, attached}
-use Rattle.lg_export.proofs.Gates.{bit_of_digit, IsDefinedBit, bits_of, AreSmall, gate_bit, gate_bit-number, number_of-bit, gate_number_small, bit-number_of, number_of-small}
-use Rattle.lg_export.proofs.Items.{IsItem}
+use Rattle.lg_export.specs.Layout.{input_wire, attached}
+use Rattle.lg_export.proofs.Gates.{bit_of_digit, IsDefinedBit, bits_of, AreSmall, gate_bit-number, number_of-bit, gate_number_small, bit-number_of, number_of-small}
 use Rattle.lg_export.proofs.Equations.{gate_number}
 use Rattle.lg_export.proofs.Named.{x_names}
 
@@ -46,9 +45,10 @@ first_bits v val k [] reads = (refl, tt)
 first_bits v val k (i ∷ is) reads =
     let r = reads.0 in
     let rest = first_bits v val k is reads.1 in
-    let bit : v r.0 ≡ bit_of_digit (val (input_wire k i.0)) = sym (ap bit_of_digit r.3 ∙ bit-number_of (v r.0) r.2) in
-    (cons_bits (first (word_on v i.1)) (bit_of_digit (val (input_wire k i.0))) (bits_at 0 (map (λ (i : ℕ × List ℕ). word_on v i.1) is)) (bits_of val (x_names k is)) (ap (λ (bits : List ℕ). first (word_on v bits)) r.1 ∙ bit) rest.0,
-    (subst (λ (number : ℕ). number < 2) (sym r.3) (number_of-small (v r.0) r.2), rest.1))
+    let bit : v r.0 ≡ bit_of_digit (val (input_wire k i.0)) = sym (ap bit_of_digit r.3 ∙ bit-number_of (v r.0) r.2) in (
+      cons_bits (first (word_on v i.1)) (bit_of_digit (val (input_wire k i.0))) (bits_at 0 (map (λ (i : ℕ × List ℕ). word_on v i.1) is)) (bits_of val (x_names k is)) (ap (λ (bits : List ℕ). first (word_on v bits)) r.1 ∙ bit) rest.0,
+      (subst (λ (number : ℕ). number < 2) (sym r.3) (number_of-small (v r.0) r.2), rest.1),
+    )
   where
     first : List Bit → Bit
     first word = slice_index_or word 0 Unknown

@@ -1,8 +1,8 @@
 -- What the module of a netlist declares: a thing for each pin and each wire, of its width.
-use Rattle.std.proofs.Common.{◌≡◌, ℕ, suc, ◌+◌, ◌-◌, ◌<◌, ◌≤◌, Bool, true, false, List, [], ◌∷◌, ◌++◌, length, map, filter, option_map, unwrap_or, Option, None, Some, refl, sym, ap, subst, ◌∙◌, arith, inl, inr, ◌⊎◌, append_assoc}
+use Rattle.std.proofs.Common.{◌≡◌, ℕ, ◌-◌, ◌≤◌, Bool, true, false, List, [], ◌∷◌, ◌++◌, length, map, filter, option_map, unwrap_or, Option, None, Some, refl, sym, ap, subst, ◌∙◌, arith, inl, inr, append_assoc}
 use Rattle.std.specs.Prelude.{◌==◌, slice_get, if◌then◌else◌}
-use Rattle.std.specs.List.{flat_map, enumerate_from}
-use Rattle.std.proofs.lemmas.Bool.{eqb-true, ne_eqb}
+use Rattle.std.specs.List.{flat_map}
+use Rattle.std.proofs.lemmas.Bool.{eqb-true}
 use Rattle.std.proofs.lemmas.List.{map-append, append-nil}
 use Rattle.std.proofs.lemmas.List.Elements.{filter-append}
 use Rattle.lg_netlist.specs.declared.netlist.Cell.{Cell}
@@ -14,19 +14,18 @@ use Rattle.lg_netlist.specs.Cell.{input_width, output_width}
 use Rattle.lg_netlist.specs.Static.{input_pins, output_pins, has_no_clock}
 use Rattle.lg_verilog.specs.declared.module.Direction.TheVariants.{Input, Output}
 use Rattle.lg_verilog.specs.declared.module.Port.{Port}
-use Rattle.lg_verilog.specs.declared.module.Decl.{Decl}
 use Rattle.lg_verilog.specs.declared.module.Decl.TheVariants as decl
 use Rattle.lg_verilog.specs.declared.module.Module.{Module}
 use Rattle.lg_vrules.specs.declared.names.Sort.{Sort}
 use Rattle.lg_vrules.specs.declared.names.Sort.TheVariants as sort
 use Rattle.lg_vrules.specs.declared.names.Thing.{Thing}
-use Rattle.lg_vrules.specs.Things.{range_width, port_thing, decl_thing, things, names, thing_of, sort_of, width_of, lines_of, names_of, is_input, is_output, is_reg, is_memory, is_readable, is_assignable}
+use Rattle.lg_vrules.specs.Things.{range_width, port_thing, decl_thing, things, names, thing_of, sort_of, width_of, lines_of, names_of, is_input, is_output, is_reg, is_memory, is_readable}
 use Rattle.lg_vrules.specs.Rules.{is_of, all_differ}
-use Rattle.lg_vmeaning.specs.InOrder.{IsIn, AllDiffer}
-use Rattle.lg_export.specs.Layout.{numbered, range_of, input_name, output_name, input_wire, output_wire, attached, part_decls, module_ports, module_of}
+use Rattle.lg_vmeaning.specs.InOrder.{AllDiffer}
+use Rattle.lg_export.specs.Layout.{numbered, range_of, input_name, output_name, input_wire, output_wire, attached, part_decls, module_of}
 use Rattle.lg_export.proofs.Items.{IsItem, item_either, item_of_flat}
-use Rattle.lg_export.proofs.Named.{part_said, all_said, said_names, said_once, input_said, output_said, x_said, w_said, found_item, all_differ-from, attached_item, all_names}
-use Rattle.lg_export.proofs.Pins.{IsPinOf, input_pin, output_pin, part_fits}
+use Rattle.lg_export.proofs.Named.{part_said, all_said, said_names, said_once, input_said, output_said, x_said, w_said, found_item, all_differ-from, all_names}
+use Rattle.lg_export.proofs.Pins.{input_pin, output_pin}
 
 -- a thing of a sort and a width
 abbrev pub thing : Sort → ℕ → Thing

@@ -161,4 +161,3 @@ pub gate_bit-number : (c : Cell) (v : Valuation) (name : List ℕ) (names : List
 gate_bit-number cell.Not v name names small = not_bit-digit (v name) small.0
 gate_bit-number cell.And v name names small = and_bits v (v name) names small.0 small.1
 gate_bit-number cell.Or v name names small = or_bits v (v name) names small.0 small.1
-

@@ -1,5 +1,5 @@
 -- The equations of the module: one for each attached input of a part, one for each part, one for each output pin.
-use Rattle.std.proofs.Common.{◌≡◌, ℕ, suc, ◌+◌, List, [], ◌∷◌, ◌++◌, length, map, Some, refl, sym, ap, subst, ◌∙◌, arith, inl, inr, ◌⊎◌}
+use Rattle.std.proofs.Common.{◌≡◌, ℕ, suc, ◌+◌, List, [], ◌∷◌, ◌++◌, map, Some, refl, sym, ap, subst, ◌∙◌, arith, inl, inr}
 use Rattle.std.specs.Prelude.{slice_get}
 use Rattle.std.specs.List.{flat_map, enumerate_from}
 use Rattle.std.proofs.lemmas.List.{map-append}
@@ -8,7 +8,6 @@ use Rattle.lg_netlist.specs.declared.netlist.PinUse.{PinUse}
 use Rattle.lg_netlist.specs.declared.netlist.Netlist.{Netlist}
 use Rattle.lg_netlist.specs.Static.{output_pins}
 use Rattle.lg_netlist.specs.Valid.{IsFittingPart}
-use Rattle.lg_verilog.specs.declared.expr.Expr.{Expr}
 use Rattle.lg_verilog.specs.declared.expr.Expr.TheVariants as expr
 use Rattle.lg_verilog.specs.declared.module.Assign.{Assign}
 use Rattle.lg_export.specs.Layout.{numbered, output_name, input_wire, output_wire, attached, bits_value, equation, part_assigns, module_assigns}

@@ -1,5 +1,5 @@
 -- An accepted netlist settles on its static values, so in time too on the outputs of its module.
-use Rattle.std.proofs.Common.{◌≡◌, ℕ, true, List, [], ◌∷◌, map}
+use Rattle.std.proofs.Common.{◌≡◌, true, List, [], ◌∷◌, map}
 use Rattle.std.specs.List.{AllByRecursion}
 use Rattle.lg_value.specs.Word.{IsDefined}
 use Rattle.lg_timing.specs.Session.{Line}

@@ -4,9 +4,8 @@ use Rattle.std.specs.Prelude.{◌==◌, slice_get}
 use Rattle.std.specs.List.{flat_map, enumerate_from}
 use Rattle.std.specs.Map.{lookup}
 use Rattle.std.specs.Str.{bytes_eq}
-use Rattle.std.proofs.lemmas.Bool.{false≢true, and_from, cases_Bool, ne_eqb}
+use Rattle.std.proofs.lemmas.Bool.{false≢true, and_from, ne_eqb}
 use Rattle.std.proofs.lemmas.List.{map-append}
-use Rattle.std.proofs.lemmas.Option.{slice_get_within}
 use Rattle.std.proofs.lemmas.Slice.Eq.{bytes_eq-Decides}
 use Rattle.lg_netlist.specs.declared.netlist.Cell.{Cell}
 use Rattle.lg_netlist.specs.declared.netlist.Cell.TheVariants.{Not, And, Or}
@@ -21,7 +20,7 @@ use Rattle.lg_vmeaning.proofs.InOrderLemmas.{in_either}
 use Rattle.lg_vmeaning.proofs.NameLemmas.{in_among}
 use Rattle.lg_vmeaning.proofs.ValidLemmas.{differ_both}
 use Rattle.lg_export.specs.Layout.{numbered, input_name, output_name, input_wire, output_wire, attached}
-use Rattle.lg_export.proofs.Items.{IsItem, item_at, item_left, item_right, map_item, flat_item, item_either, item_of_map, item_of_flat, numbered_at, filter_item, item_of_filter, item_of_numbered}
+use Rattle.lg_export.proofs.Items.{IsItem, item_left, item_right, map_item, flat_item, item_either, item_of_map, item_of_flat, numbered_at, filter_item, item_of_filter, item_of_numbered}
 use Rattle.lg_export.proofs.Pins.{part_fits, input_names_differ, output_names_differ}
 use Rattle.lg_export.proofs.WireNames.{initial, initial-input_wire, initial-output_wire, initial-input_name, initial-output_name, apart, input_wire_same, output_wire_same, input_name_same, output_name_same}
 
@@ -137,8 +136,8 @@ part_differ nets k p fits few =
     differ_both (x_names k (attached p)) (w_names k (numbered p.outputs)) (x_differ k 0 p.inputs few (omega (arith, few_inputs p.cell (length p.inputs) fits.takes)))
     (subst AllDiffer (sym (one_output p.outputs fits.gives k)) (λ h. h, tt))
     (λ name x w.
-        let r = x_is k 0 p.inputs name x in
-        not_x_and_w k r.0 k (sym r.3 ∙ first name (subst (λ (names : List (List ℕ)). IsIn names name) (one_output p.outputs fits.gives k) w)))
+    let r = x_is k 0 p.inputs name x in
+    not_x_and_w k r.0 k (sym r.3 ∙ first name (subst (λ (names : List (List ℕ)). IsIn names name) (one_output p.outputs fits.gives k) w)))
   where
     first : (name : List ℕ) → IsIn (output_wire k 0 ∷ []) name → name ≡ output_wire k 0
     first name (inl e) = e
@@ -166,9 +165,9 @@ wires_differ nets k [] fits few = tt
 wires_differ nets k (p ∷ parts) fits few =
     differ_both (part_names (k, p)) (wire_names (k + 1) parts) (part_differ nets k p (fits 0 p refl) (omega (arith, few))) (wires_differ nets (k + 1) parts (λ i. fits (suc i)) (omega (arith, few)))
     (λ name here there.
-        let r = wire_is nets (k + 1) parts (λ i. fits (suc i)) name there in
-        let same = parts_apart k r.0 name (omega (arith, few)) (omega (arith, few, r.2)) (part_is nets k p (fits 0 p refl) name here) r.3 in
-        omega (arith, same, r.1))
+    let r = wire_is nets (k + 1) parts (λ i. fits (suc i)) name there in
+    let same = parts_apart k r.0 name (omega (arith, few)) (omega (arith, few, r.2)) (part_is nets k p (fits 0 p refl) name here) r.3 in
+    omega (arith, same, r.1))
 
 fit : (n : Netlist) → Fit n.nets n.parts
 fit n i p at = part_fits n i p at
@@ -305,9 +304,9 @@ module _ {B : Type 0} (fin fout : PinUse → B) (fx fw : ℕ → PartUse → ℕ
   origin n t here = elim (item_either ins (outs ++ wires) t here) [
     | inl i ↦ let r = item_of_map (λ (p : PinUse). (input_name p, fin p)) (input_pins n) t i in subst (Origin n) (sym r.2) (FromInput r.0 r.1)
     | inr other ↦ elim (item_either outs wires t other) [
-        | inl o ↦ let r = item_of_map (λ (p : PinUse). (output_name p, fout p)) (output_pins n) t o in subst (Origin n) (sym r.2) (FromOutput r.0 r.1)
-        | inr w ↦ of_wire (item_of_flat (part_said fx fw) (numbered n.parts) t w)
-      ]
+      | inl o ↦ let r = item_of_map (λ (p : PinUse). (output_name p, fout p)) (output_pins n) t o in subst (Origin n) (sym r.2) (FromOutput r.0 r.1)
+      | inr w ↦ of_wire (item_of_flat (part_said fx fw) (numbered n.parts) t w)
+    ]
   ]
     where
       ins : List (List ℕ × B)

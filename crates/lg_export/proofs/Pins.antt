@@ -1,6 +1,6 @@
 -- The pins of a netlist without clocks: all are data pins, each fits, and their names differ.
-use Rattle.std.proofs.Common.{◌≡◌, ℕ, suc, ◌+◌, ◌<◌, Bool, true, false, not, ◌&&◌, List, [], ◌∷◌, length, map, filter, Option, None, Some, refl, sym, ap, subst, ◌∙◌, arith, inl, inr, ◌⊎◌}
-use Rattle.std.specs.Prelude.{◌==◌, All, is_none, slice_get}
+use Rattle.std.proofs.Common.{◌≡◌, ℕ, suc, ◌+◌, Bool, true, false, not, List, [], ◌∷◌, length, map, filter, Option, None, Some, refl, sym, ap, subst, ◌∙◌, arith, inl, inr}
+use Rattle.std.specs.Prelude.{◌==◌, is_none, slice_get}
 use Rattle.std.specs.List.{AllByRecursion, enumerate_from, IsDistinct}
 use Rattle.std.specs.Str.{bytes_eq}
 use Rattle.std.proofs.lemmas.Bool.{eqb-true, false≢true, and_parts}
@@ -12,7 +12,7 @@ use Rattle.lg_netlist.specs.declared.netlist.Netlist.{Netlist}
 use Rattle.lg_netlist.specs.Static.{data_pins, input_pins, output_pins, has_no_clock}
 use Rattle.lg_netlist.specs.Valid.{IsFittingPart, IsFittingPin}
 use Rattle.lg_vmeaning.specs.InOrder.{IsIn, AllDiffer}
-use Rattle.lg_export.proofs.Items.{IsItem, at_item, item_of_filter, item_of_map}
+use Rattle.lg_export.proofs.Items.{IsItem, at_item, item_of_filter}
 
 all_data : (n : Netlist) → n.clock_pin ≡ None → data_pins n ≡ n.pins
 all_data n e = rw e (all_kept 0 n.pins)

@@ -1,8 +1,7 @@
 -- The expressions of the module of a netlist are within the reader's limit.
 use Rattle.std.proofs.Common.{◌≡◌, ℕ, suc, ◌+◌, ◌≤◌, true, false, cond, not, List, [], ◌∷◌, length, map, filter, refl, sym, ap, subst, ◌∙◌, arith, inl, inr}
-use Rattle.std.specs.Prelude.{◌==◌, Bool, max, slice_get}
+use Rattle.std.specs.Prelude.{◌==◌, Bool}
 use Rattle.std.specs.List.{enumerate_from}
-use Rattle.lg_netlist.specs.declared.netlist.PartUse.{PartUse}
 use Rattle.lg_netlist.specs.declared.netlist.Netlist.{Netlist}
 use Rattle.lg_netlist.specs.Acceptance.{IsAccepted}
 use Rattle.lg_netlist.specs.Static.{has_no_clock}

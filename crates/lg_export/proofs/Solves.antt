@@ -1,5 +1,5 @@
 -- The numbers of static values solve the module's equations.
-use Rattle.std.proofs.Common.{◌≡◌, ℕ, zero, suc, ◌+◌, ◌^◌, ◌<◌, ◌≤◌, true, false, List, [], ◌∷◌, ◌++◌, length, map, get_or, option_map, unwrap_or, Option, None, Some, refl, sym, ap, subst, ◌∙◌, arith, inl, inr, ◌⊎◌}
+use Rattle.std.proofs.Common.{◌≡◌, ℕ, suc, ◌+◌, ◌^◌, ◌<◌, ◌≤◌, true, false, List, [], ◌∷◌, length, map, get_or, option_map, unwrap_or, Option, Some, refl, sym, ap, subst, ◌∙◌, arith, inl, inr}
 use Rattle.std.specs.Prelude.{slice_get, Contains}
 use Rattle.std.specs.Int.{bit_at}
 use Rattle.std.specs.List.{AllByRecursion, range_with_len}
@@ -9,7 +9,6 @@ use Rattle.std.proofs.lemmas.List.FromFn.{length-range_with_len, get_or-range_wi
 use Rattle.std.proofs.lemmas.List.Elements.{All-cons, All-nil}
 use Rattle.std.proofs.lemmas.Option.{same_Some, slice_get-map, slice_get_within, get_or_from_slice_get, slice_get-get_or}
 use Rattle.lg_value.specs.declared.bit.Bit.{Bit}
-use Rattle.lg_value.specs.declared.bit.Bit.TheVariants.{Zero, One}
 use Rattle.lg_value.specs.Bit.{digit_of}
 use Rattle.lg_value.specs.Word.{IsDefined, number_of as word_number, bit_of_number, word_of_number}
 use Rattle.lg_value.proofs.WordLemmas.{number_of-lt, digit_of-bit_of_number, word_of_number-number_of}
@@ -18,14 +17,14 @@ use Rattle.lg_netlist.specs.declared.netlist.PinUse.{PinUse}
 use Rattle.lg_netlist.specs.declared.netlist.Netlist.{Netlist}
 use Rattle.lg_netlist.specs.Acceptance.{IsAccepted, is_undriven}
 use Rattle.lg_netlist.specs.Cell.{State, cell_word, input_width, output_width}
-use Rattle.lg_netlist.specs.Static.{input_pins, output_pins, has_no_clock, word_on, inputs_of, state_of, Carries, AreStaticValues, output_words, IsDefinedRow}
+use Rattle.lg_netlist.specs.Static.{input_pins, output_pins, has_no_clock, word_on, inputs_of, state_of, AreStaticValues, output_words, IsDefinedRow}
 use Rattle.lg_verilog.specs.declared.expr.Expr.{Expr}
 use Rattle.lg_verilog.specs.declared.expr.Expr.TheVariants as expr
 use Rattle.lg_verilog.specs.declared.module.Assign.{Assign}
 use Rattle.lg_verilog.specs.declared.module.Module.{Module}
 use Rattle.lg_vrules.specs.declared.names.Sort.TheVariants as sort
 use Rattle.lg_vrules.specs.declared.names.Thing.{Thing}
-use Rattle.lg_vrules.specs.Things.{range_width, lines_of, names_of, width_of, is_input, is_output, is_reg, is_readable}
+use Rattle.lg_vrules.specs.Things.{range_width, names_of, is_output}
 use Rattle.lg_vmachine.specs.Kept.{Kept}
 use Rattle.lg_vmachine.specs.Meaning.{Valuation, number_of}
 use Rattle.lg_vmeaning.specs.Solution.{IsSolution}
@@ -36,9 +35,9 @@ use Rattle.lg_export.proofs.Gates.{bit_of_digit, IsDefinedBit, bit_is_defined}
 use Rattle.lg_export.proofs.Given.{Given, OfInput, OfPart, OfPin, given}
 use Rattle.lg_export.proofs.Items.{IsItem, item_at, item_of_map, numbered_at, each_item, item_contains}
 use Rattle.lg_export.proofs.Equations.{wholes, gate_number, equation_number}
-use Rattle.lg_export.proofs.Named.{all_said, said_once, input_said, output_said, x_said, w_said, found_item, x_names, attached_is, only_output, only_place, FromInput, FromOutput, FromX, FromW, Origin, origin}
-use Rattle.lg_export.proofs.Pins.{IsPinOf, input_pin, output_pin, part_fits}
-use Rattle.lg_export.proofs.Runs.{FitWidths, bits_number}
+use Rattle.lg_export.proofs.Named.{all_said, said_once, input_said, output_said, x_said, w_said, found_item, attached_is, only_output, only_place, FromInput, FromOutput, FromX, FromW, Origin, origin}
+use Rattle.lg_export.proofs.Pins.{input_pin, output_pin, part_fits}
+use Rattle.lg_export.proofs.Runs.{bits_number}
 use Rattle.lg_export.proofs.Sources.{Source, FromPin, FromPart, input_source, pin_source, input_driven}
 use Rattle.lg_export.proofs.Valid.{port_width, bits_fit, first_of_part, first_narrow, wholes-are}
 
@@ -76,7 +75,7 @@ abbrev pub valuation : Netlist → List State → (ℕ → Bit) → Valuation
 valuation n states v name = unwrap_or (lookup (λ other. bytes_eq other name) (static_numbers n states v)) 0
 
 module _ (n : Netlist) (clockless : has_no_clock n ≡ true) (accepted : IsAccepted n) (states : List State) (row : List (List Bit)) (v : ℕ → Bit) (static : AreStaticValues n states row v)
-  (row_defined : IsDefinedRow (input_pins n) row) (defined : (net : ℕ) → is_undriven n net ≡ false → IsDefinedBit (v net)) where
+    (row_defined : IsDefinedRow (input_pins n) row) (defined : (net : ℕ) → is_undriven n net ≡ false → IsDefinedBit (v net)) where
   abbrev m : Module
   m = module_of n
 

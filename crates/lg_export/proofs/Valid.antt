@@ -1,9 +1,9 @@
 -- The module of an accepted netlist keeps the seven rules.
-use Rattle.std.proofs.Common.{◌≡◌, ℕ, zero, suc, ◌+◌, ◌<◌, ◌≤◌, Bool, true, false, not, ◌&&◌, ◌||◌, List, [], ◌∷◌, ◌++◌, length, map, Option, None, Some, refl, sym, ap, subst, ◌∙◌, arith, inl, inr, ◌⊎◌}
+use Rattle.std.proofs.Common.{◌≡◌, ℕ, ◌<◌, ◌≤◌, Bool, true, false, not, ◌&&◌, ◌||◌, List, [], ◌∷◌, ◌++◌, length, map, Option, None, Some, refl, sym, ap, subst, ◌∙◌, arith, inl, inr, ◌⊎◌}
 use Rattle.std.specs.Prelude.{◌==◌, nat_le, sum_by, slice_get, IsTrue, Contains}
-use Rattle.std.specs.List.{list_all, flat_map}
+use Rattle.std.specs.List.{list_all}
 use Rattle.std.specs.Str.{bytes_eq}
-use Rattle.std.proofs.lemmas.Bool.{false≢true, and_from, or_right, le-leb, eq-eqb, eqb-true, ne_eqb, cases_eq}
+use Rattle.std.proofs.lemmas.Bool.{and_from, or_right, le-leb, eq-eqb, eqb-true}
 use Rattle.std.proofs.lemmas.List.Sums.{sum_by-cons}
 use Rattle.std.proofs.lemmas.Option.{get_or_from_slice_get, slice_get_within}
 use Rattle.std.proofs.lemmas.Slice.Eq.{bytes_eq-Decides}
@@ -13,7 +13,7 @@ use Rattle.lg_netlist.specs.declared.netlist.Netlist.{Netlist}
 use Rattle.lg_netlist.specs.Acceptance.{IsAccepted}
 use Rattle.lg_netlist.specs.Cell.{input_width, output_width}
 use Rattle.lg_netlist.specs.Static.{input_pins, output_pins, has_no_clock}
-use Rattle.lg_netlist.specs.Valid.{HaveWidths, has_width, IsFittingPart}
+use Rattle.lg_netlist.specs.Valid.{HaveWidths, has_width}
 use Rattle.lg_verilog.specs.declared.expr.Expr.{Expr}
 use Rattle.lg_verilog.specs.declared.expr.Expr.TheVariants as expr
 use Rattle.lg_verilog.specs.declared.module.Assign.{Assign}
@@ -26,19 +26,18 @@ use Rattle.lg_vrules.specs.declared.names.Sort.{Sort}
 use Rattle.lg_vrules.specs.declared.names.Sort.TheVariants as sort
 use Rattle.lg_vrules.specs.declared.names.Thing.{Thing}
 use Rattle.lg_vrules.specs.Inside.{holds_inside}
-use Rattle.lg_vrules.specs.Rules.{is_among, all_differ, is_named, are_named, is_of, reads_declared, is_target, assign_uses, is_no_clock, all_use, are_used, expr_width, is_width, assign_fits, decl_fits, is_narrow, are_narrow, are_fitting, has_each, are_assigned_once, are_stored_once, are_filled_once, are_kept_once, divides_safely, are_divided_safely, all_index, decl_words, decl_is_whole, are_indexed, assigned, first_false, first_broken}
-use Rattle.lg_vrules.specs.Things.{range_width, port_thing, decl_thing, things, names, thing_of, sort_of, width_of, is_reg, is_memory, is_assignable, is_readable}
+use Rattle.lg_vrules.specs.Rules.{is_among, all_differ, is_named, are_named, is_of, reads_declared, is_target, assign_uses, is_no_clock, all_use, are_used, expr_width, assign_fits, decl_fits, is_narrow, are_narrow, are_fitting, has_each, are_assigned_once, are_stored_once, are_filled_once, are_kept_once, divides_safely, are_divided_safely, all_index, decl_words, decl_is_whole, are_indexed, assigned, first_false, first_broken}
+use Rattle.lg_vrules.specs.Things.{range_width, port_thing, decl_thing, things, names, sort_of, width_of, is_reg, is_memory, is_assignable, is_readable}
 use Rattle.lg_vmeaning.specs.InOrder.{IsIn, AllDiffer}
 use Rattle.lg_vmeaning.proofs.ValidLemmas.{differ_both}
-use Rattle.lg_export.specs.Layout.{NamedBit, numbered, range_of, input_name, output_name, input_wire, output_wire, bit_on, bits_value, attached, equation, part_decls, module_ports, module_assigns, module_of}
-use Rattle.lg_export.proofs.Accepted.{CanBeLaidOut-accepted}
-use Rattle.lg_export.proofs.Declared.{thing, pin_thing, x_thing, w_thing, all_things, things-are, names_all_differ, names-are, input_declared, output_declared, x_declared, w_declared, range_width-of, one_bit_input, one_bit_output, width_by, is_of_by}
-use Rattle.lg_export.proofs.Given.{x_assign, w_assign, o_assign, Given, OfInput, OfPart, OfPin, given, assigned-are}
-use Rattle.lg_export.proofs.Items.{IsItem, item_either, item_of_map, item_of_flat, item_of_numbered, numbered_at, flat_item, all_items, map_item, item_left, item_right}
-use Rattle.lg_export.proofs.Equations.{wholes, equation_reads, equation_declared, equation_width, equation_divides, equation_index}
-use Rattle.lg_export.proofs.Named.{x_names, w_names, part_names, wire_names, all_names, in_item, item_in, all_differ-from, wires_apart, output_is_no_wire, attached_is, only_output, only_place, FromInput, FromOutput, FromX, FromW, Origin, origin}
-use Rattle.lg_export.proofs.Pins.{IsPinOf, input_pin, output_pin, part_fits, output_names_differ}
-use Rattle.lg_export.proofs.Runs.{FitWidths, bits_read, bits_declared, bits_width, bits_divide, bits_index}
+use Rattle.lg_export.specs.Layout.{NamedBit, numbered, range_of, input_name, output_name, input_wire, output_wire, bit_on, attached, equation, part_decls, module_ports, module_assigns, module_of}
+use Rattle.lg_export.proofs.Declared.{pin_thing, x_thing, w_thing, all_things, things-are, names_all_differ, input_declared, output_declared, x_declared, w_declared, range_width-of, one_bit_input, one_bit_output, width_by, is_of_by}
+use Rattle.lg_export.proofs.Given.{Given, OfInput, OfPart, OfPin, given, assigned-are}
+use Rattle.lg_export.proofs.Items.{IsItem, item_either, item_of_map, item_of_flat, numbered_at, flat_item, all_items, map_item, item_left, item_right}
+use Rattle.lg_export.proofs.Equations.{wholes, equation_declared, equation_width, equation_divides, equation_index}
+use Rattle.lg_export.proofs.Named.{x_names, w_names, part_names, wire_names, in_item, item_in, all_differ-from, wires_apart, output_is_no_wire, attached_is, only_output, FromInput, FromOutput, FromX, FromW, Origin, origin}
+use Rattle.lg_export.proofs.Pins.{input_pin, output_pin, part_fits, output_names_differ}
+use Rattle.lg_export.proofs.Runs.{FitWidths, bits_declared, bits_width, bits_divide, bits_index}
 use Rattle.lg_export.proofs.Sources.{Source, FromPin, FromPart, input_source, pin_source, fed}
 use Rattle.lg_export.proofs.WireNames.{output_name_same}
 
