@@ -1,5 +1,5 @@
 -- The exported module agrees with the circuit in time: each row settles, soon, with the module's outputs.
-use Rattle.std.specs.Prelude.{ℕ, ◌≤◌, map}
+use Rattle.std.specs.Prelude.{◌≡◌, ℕ, ◌≤◌, map}
 use Rattle.std.specs.List.{AllByRecursion}
 use Rattle.lg_value.specs.Word.{IsDefined}
 use Rattle.lg_timing.specs.Session.{Line, Table}
@@ -19,7 +19,9 @@ pub record AgreesInTimeOn (n : Netlist) (m : Module) (longest limit : ℕ) (rows
   pub defined : AllByRecursion (λ (line : Line). AllByRecursion IsDefined line.outputs) table.lines
   pub same : AreRows m (start m) (numbers_of rows) (numbers_of (map (λ (line : Line). line.outputs) table.lines))
 
--- for each list of rows of defined inputs, at each limit that the longest chain keeps to
-abbrev pub AgreesInTime : Netlist → Module → Type 0
-AgreesInTime n m =
-    (longest limit : ℕ) → IsLongest n longest → longest ≤ limit → (rows : Rows) → AllByRecursion (IsDefinedRow (input_pins n)) rows → AgreesInTimeOn n m longest limit rows
+-- the netlist has one longest delay; and so for each list of rows of defined inputs, at each limit that this delay keeps to
+pub record AgreesInTime (n : Netlist) (m : Module) : Type 0 where
+  pub longest : ℕ
+  pub is_longest : IsLongest n longest
+  pub only : (other : ℕ) → IsLongest n other → other ≡ longest
+  pub on_rows : (limit : ℕ) → longest ≤ limit → (rows : Rows) → AllByRecursion (IsDefinedRow (input_pins n)) rows → AgreesInTimeOn n m longest limit rows

@@ -29,11 +29,11 @@ pub fn export(alloc: Global, netlist: &Netlist) -> Result<Module, NotAccepted>
     ensures refused { IfErr result (λ fault. (fault ≡ refusal.Memory) ⊎ IsRefused netlist.now fault) }
     // Each part has its own wires and equations.
     ensures layout { IfOk result (λ m. m ≡ module_of netlist.now) }
-    // The module is valid and has exactly one solution for all registers, memories and inputs; on each list of rows of
-    // defined inputs its outputs are those of the static rows.
+    // The module is valid and has exactly one solution for all registers, memories and inputs that fit; on each list of rows
+    // of defined inputs its outputs are those of the static rows.
     ensures agrees { IfOk result (λ m. Agrees netlist.now m) }
-    // Each list of such rows has exactly one session table, at each limit that the longest chain keeps to: no row
-    // oscillates, each settles within that delay, on the module's outputs.
+    // The netlist has one longest delay. Each list of such rows has exactly one session table, at each limit that is at least
+    // this delay: no row oscillates, each settles within the delay, on the module's outputs.
     ensures in_time { IfOk result (λ m. AgreesInTime netlist.now m) }
 {
     netlist.check_export(alloc)?;

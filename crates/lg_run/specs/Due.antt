@@ -1,6 +1,5 @@
 -- What is due for some words and some files: a text with its status, or the first stop in the order of the verb's steps.
 use Rattle.std.specs.Prelude.{◌≡◌, ℕ, ◌≤◌, List, [], length, Option, Some, None, nat_lt, MatchBool}
-use Rattle.std.specs.List.{AllByRecursion}
 use Rattle.lg_run.specs.declared.status.Status.{Status}
 use Rattle.lg_run.specs.declared.status.Status.TheVariants.{Done}
 use Rattle.lg_run.specs.declared.stop.Refusal.TheVariants.{Missing, TooLong, TooDeep, NotProject, NotBuilt}
@@ -9,14 +8,12 @@ use Rattle.lg_run.specs.declared.stop.Stop.TheVariants.{Usage, Input, NotAccepte
 use Rattle.lg_circ.specs.declared.read.TheConstants.{GREATEST_LENGTH}
 use Rattle.lg_circ.specs.declared.project.Project.{Project}
 use Rattle.lg_circ.specs.Project.{SaysProject, IsTooDeep, IsNoProject}
-use Rattle.lg_export.specs.Agreement.{Rows, Agrees}
-use Rattle.lg_export.specs.InTime.{AgreesInTimeOn}
+use Rattle.lg_export.specs.Agreement.{Agrees}
+use Rattle.lg_export.specs.InTime.{AgreesInTime}
 use Rattle.lg_export.specs.Layout.{module_of}
 use Rattle.lg_netlist.specs.declared.acceptance.NotAccepted.{NotAccepted as Refused}
 use Rattle.lg_netlist.specs.declared.netlist.Netlist.{Netlist}
 use Rattle.lg_netlist.specs.Acceptance.{IsAccepted, IsRefused}
-use Rattle.lg_netlist.specs.Chain.{IsLongest}
-use Rattle.lg_netlist.specs.Static.{input_pins, IsDefinedRow}
 use Rattle.lg_verilog.specs.Grammar.{IsModuleText as IsTextOf}
 use Rattle.lg_verilog.specs.Printed.{module_text}
 use Rattle.lg_run.specs.OneSheet.{IsBuilt, IsNotBuilt}
@@ -56,9 +53,8 @@ pub record IsAgreedText (bytes text : List ℕ) : Type 0 where
   -- the text is one of the module in the grammar of modules
   pub in_grammar : IsTextOf text (module_of made.netlist)
   pub agrees : Agrees made.netlist (module_of made.netlist)
-  -- where the project's limit lets the longest chain pass, each list of rows of defined inputs has one session table at it
-  pub in_time : (longest : ℕ) → IsLongest made.netlist longest → longest ≤ made.project.limit → (rows : Rows)
-      → AllByRecursion (IsDefinedRow (input_pins made.netlist)) rows → AgreesInTimeOn made.netlist (module_of made.netlist) longest made.project.limit rows
+  -- at each limit that the longest delay keeps to, so at the project's where it does
+  pub in_time : AgreesInTime made.netlist (module_of made.netlist)
 
 -- why bytes have no text of a module: they are too deep, or say no project, or one with a circuit that is not built or whose
 -- netlist is refused

@@ -31,8 +31,8 @@ pub fn run<F: Files, O: Sink, E: Sink>(
     ensures done { result ≡ Status.Done → IfSome (F.seen files.old).held
         (λ held. WroteDue (words_of words.now) held result (O.seen out.old) (O.seen out.new)) }
     // .. which is that of a valid module whose outputs, on each list of rows of defined inputs, are those of the static
-    // rows; and such rows have exactly one session table, in which each row settles within the longest chain's delay, on
-    // the module's outputs.
+    // rows; and at each limit that is at least the longest chain's delay such rows have exactly one session table, in which
+    // each row settles within that delay, on the module's outputs.
     ensures agrees { result ≡ Status.Done → IfSome (F.seen files.old).held
         (λ held. WroteAgreed (words_of words.now) held (O.seen out.old) (O.seen out.new)) }
 

@@ -6,3 +6,4 @@ pub mod SettlesSoon
 pub mod Tables
 pub mod Accepted
 pub mod SettlesOnRows
+pub mod LongestChain

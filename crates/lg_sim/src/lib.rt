@@ -3,4 +3,4 @@
 
 mod law;
 
-pub use law::accepted_netlists_settle;
+pub use law::{accepted_netlists_have_one_longest_delay, accepted_netlists_settle};

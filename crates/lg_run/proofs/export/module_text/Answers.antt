@@ -50,7 +50,6 @@ returns c =
             t.printed ∙ (ap (λ (n : Netlist). module_text (module_of n)) one ∙ sym (c.in_ok-print.ensures.text ∙ ap module_text c.in_ok-module.ensures.layout));
         in_grammar = subst (IsTextOf c.in_ok-print.text.items) c.in_ok-module.ensures.layout c.in_ok-print.ensures.read_again;
         agrees = subst (λ (m : Module). Agrees netlist m) c.in_ok-module.ensures.layout c.in_ok-module.ensures.agrees;
-        in_time = λ longest is_longest enough rows defined.
-            subst (λ (m : Module). AgreesInTime netlist m) c.in_ok-module.ensures.layout c.in_ok-module.ensures.in_time longest project.limit is_longest enough rows defined;
+        in_time = subst (λ (m : Module). AgreesInTime netlist m) c.in_ok-module.ensures.layout c.in_ok-module.ensures.in_time;
       },
     )
