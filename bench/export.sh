@@ -1,6 +1,6 @@
 #!/usr/bin/env bash
-# Times `lg export` of wide circuits of 100, 1,000 and 10,000 gates and of chains of 1,000, 10,000 and 60,000: the best of
-# three runs each, as ratios to the first.
+# Times `lg export` of wide circuits of 100, 1,000 and 10,000 gates and of chains of 1,000, 10,000 and 60,000, and `lg vrun`
+# of their modules on one row: the best of three runs each, as ratios to the first. Then `lg vrun` on 65,536 rows.
 set -u
 cd "$(dirname "$0")/.." || exit 1
 program=$PWD/crates/lg/out/lg
@@ -45,32 +45,38 @@ chain() {
   }'
 }
 
-# Microseconds of the best of three runs.
+# Microseconds of the best of three runs with these words; what the last one printed stands in out.
 best() {
-  local least=
+  local least= from to took
   for _ in 1 2 3; do
-    local from to
     from=$(date +%s%N)
-    "$program" export "$1" >"$folder/out.v" || exit 1
+    "$program" "$@" >"$folder/out" || exit 1
     to=$(date +%s%N)
-    local took=$(((to - from) / 1000))
-    [ -z "$least" ] || [ "$took" -lt "$least" ] && least=$took
+    took=$(((to - from) / 1000))
+    if [ -z "$least" ] || [ "$took" -lt "$least" ]; then least=$took; fi
   done
   echo "$least"
 }
 
-# A shape of circuit, and its sizes.
+# A shape of circuit, the header of its rows and one row, and its sizes.
 compare() {
-  local shape=$1 gates took first=
-  shift
+  local shape=$1 gates took ran first= first_ran=
+  printf '%s\n%s\n' "$2" "$3" >"$folder/one.rows"
+  shift 3
   for gates in "$@"; do
     "$shape" "$gates" >"$folder/$gates.circ"
-    took=$(best "$folder/$gates.circ")
-    first=${first:-$took}
-    awk -v shape="$shape" -v gates="$gates" -v took="$took" -v first="$first" \
-      'BEGIN { printf "%-5s %6d gates  %8.1f ms  ratio %.1f\n", shape, gates, took / 1000, took / first }'
+    took=$(best export "$folder/$gates.circ")
+    mv "$folder/out" "$folder/$gates.v"
+    ran=$(best vrun "$folder/$gates.v" "$folder/one.rows")
+    first=${first:-$took} first_ran=${first_ran:-$ran}
+    awk -v shape="$shape" -v gates="$gates" -v took="$took" -v first="$first" -v ran="$ran" -v first_ran="$first_ran" \
+      'BEGIN { printf "%-5s %6d gates  export %8.1f ms  ratio %.1f  vrun %8.1f ms  ratio %.1f\n", shape, gates, took / 1000, took / first, ran / 1000, ran / first_ran }'
   done
 }
 
-compare wide 100 1000 10000
-compare chain 1000 10000 60000
+compare wide 'A B' '1 0' 100 1000 10000
+compare chain A 1 1000 10000 60000
+
+"$program" export examples/full_adder.circ >"$folder/full_adder.v" || exit 1
+{ echo 'A B Cin'; seq 65536 | awk '{ print $1 % 2, int($1 / 2) % 2, int($1 / 4) % 2 }'; } >"$folder/most.rows"
+awk -v ran="$(best vrun "$folder/full_adder.v" "$folder/most.rows")" 'BEGIN { printf "full adder on 65536 rows  vrun %.1f ms\n", ran / 1000 }'

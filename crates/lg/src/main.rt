@@ -1,4 +1,4 @@
-//! `lg`: exports the circuits that digital design classes draw.
+//! `lg`: the workbench for the circuits that digital design classes draw; it obeys its words.
 #![tactic(auto)]
 
 use lg_io::{HostFiles, StdSink};

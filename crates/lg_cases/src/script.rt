@@ -57,7 +57,8 @@ impl Script {
                 self.cases.push(Case::new(alloc, rest)?)?;
                 Ok(true)
             }
-            "times" => self.put_times(rest),
+            "times" => self.put_times(rest, ""),
+            "lines" => self.put_times(rest, "\n"),
             _ => self.set(alloc, word, rest),
         }
     }
@@ -120,8 +121,8 @@ impl Script {
         Ok(true)
     }
 
-    // Adds a text as often as the number before it says.
-    fn put_times(&mut self, rest: &str) -> io::Result<bool> {
+    // Adds a text, with an end behind it, as often as the number before it says.
+    fn put_times(&mut self, rest: &str, end: &str) -> io::Result<bool> {
         let Some((times, text)) = rest.split_once(' ') else {
             return Ok(false);
         };
@@ -129,7 +130,7 @@ impl Script {
             return Ok(false);
         };
         for _ in 0..times {
-            if !self.put(text.as_bytes())? {
+            if !self.put(text.as_bytes())? || !self.put(end.as_bytes())? {
                 return Ok(false);
             }
         }

@@ -1,4 +1,4 @@
--- What is due for what a file holds.
+-- What is due for what a project file holds.
 use Rattle.std.proofs.Common.{◌≡◌, ℕ, ◌<◌, ◌≤◌, Bool, true, false, List, length, Option, Some, None, Result, Ok, Err, Vec, Global, refl, sym, ap, subst, ◌∙◌, arith, inl, inr}
 use Rattle.std.specs.Prelude.{IfSome, nat_lt, MatchBool}
 use Rattle.std.proofs.lemmas.Bool.{le-ltb, lt-ltb}
@@ -11,7 +11,7 @@ use Rattle.lg_io.specs.declared.fault.FileFault.TheVariants as file_fault
 use Rattle.lg_circ.specs.declared.read.TheConstants.{GREATEST_LENGTH}
 use Rattle.lg_run.specs.declared.status.Status.{Status}
 use Rattle.lg_run.specs.declared.status.Status.TheVariants as status
-use Rattle.lg_run.specs.declared.stop.Refusal.TheVariants.{Missing, TooLong, TooDeep, NotProject, NotBuilt}
+use Rattle.lg_run.specs.declared.stop.Refusal.TheVariants.{Missing, TooLong, TooDeep, NotProject, NotBuilt, OfModule, OfRows}
 use Rattle.lg_run.specs.declared.stop.Stop.{Stop}
 use Rattle.lg_run.specs.declared.stop.Stop.TheVariants as stop
 use Rattle.lg_run.specs.Due.{Held, Due, Writes, Stops, IsModuleDue, IsExportDue, IsCommandDue, IsDue}
@@ -44,6 +44,8 @@ Exports-from_makes before after file bytes r made holds = by before.held r made 
     by None (Ok text) m h = tt
     by (Some held) (Ok text) m h = (bytes, h.0, m.0, m.1)
     by told (Err (stop.Input Missing)) m h = absurd m
+    by told (Err (stop.Input (OfModule fault))) m h = absurd m
+    by told (Err (stop.Input (OfRows fault))) m h = absurd m
     by None (Err (stop.Input TooLong)) m h = tt
     by (Some held) (Err (stop.Input TooLong)) m h = absurd (omega arith)
     by None (Err (stop.Input TooDeep)) m h = tt
@@ -73,96 +75,6 @@ Exports-from_fault before after file fault answer rose = by before.held fault an
     by told file_fault.Failed a r = r refl
     by told file_fault.Memory a r = tt
 
--- two things that are due for a file are the same
-same_due : (file : List ℕ) (found : Option (List ℕ)) (a b : Due) → IsExportDue file found a → IsExportDue file found b → a ≡ b
-same_due file found a b h k = let one = of_file file found in one.2 a h ∙ sym (one.2 b k)
-
--- a text and a stop are not both due
-not_both : (file : List ℕ) (found : Option (List ℕ)) (s : Status) (text : List ℕ) (why : Stop) (about : List ℕ) → IsExportDue file found (Writes s text) → IsExportDue file found (Stops why about) → ⊥
-not_both file found s text why about h k = let e = same_due file found (Writes s text) (Stops why about) h k in absurd cc
-
--- nor two stops
-same_stop : (file : List ℕ) (found : Option (List ℕ)) (a b : Stop) (about other : List ℕ) → IsExportDue file found (Stops a about) → IsExportDue file found (Stops b other) → a ≡ b
-same_stop file found a b about other h k = let e = same_due file found (Stops a about) (Stops b other) h k in cc
-
--- each text that is due for a file is written with `Done`
-text_is_done : (file : List ℕ) (found : Option (List ℕ)) (s : Status) (text : List ℕ) → IsExportDue file found (Writes s text) → s ≡ status.Done
-text_is_done file None s text h = absurd cc
-text_is_done file (Some bytes) s text h = by_limit (nat_lt GREATEST_LENGTH (length bytes)) h
-  where
-    by_limit : (b : Bool) → MatchBool b (◌≡◌ {A = Due} (Writes s text) (Stops (stop.Input TooLong) file)) (IsModuleDue file bytes (Writes s text)) → s ≡ status.Done
-    by_limit true h = absurd cc
-    by_limit false h = h.0
-
 -- the text of a module that is held is due
 pub text_is_due : (held : Held) (file text : List ℕ) → HoldsModule (Some held) file text → IsExportDue file (held file) (Writes status.Done text)
 text_is_due held file text (bytes, e, fits, t) = rw e (within_limit file bytes (Writes status.Done text) fits (refl, t.made))
-
--- after the text of a module was written, or a part of it, only a text is due
-pub complete_written : (told : Option Held) (words : List (List ℕ)) (file text : List ℕ) (s : Status) (files_before files_after : files.Seen) (before after : Seen) → command_of words ≡ Some (Export file) → HoldsModule told file text
-    → Ends s before after text → IfSome told (λ held. (due : Due) → IsDue words held due → Follows due s files_before files_after before after)
-complete_written None words file text s files_before files_after before after asked h ends = tt
-complete_written (Some held) words file text s files_before files_after before after asked h ends = λ due is_due.
-    by due s ends (subst (λ (c : Option Command). IsCommandDue c held due) asked is_due)
-  where
-    by : (due : Due) (s : Status) → Ends s before after text → IsExportDue file (held file) due → Follows due s files_before files_after before after
-    by (Writes due t) status.Done ends k = inl (sym (text_is_done file (held file) due t k))
-    by (Writes due t) status.WriteFault ends k = inr (inr (inr ends.1))
-    by (Stops why about) status.Done ends k = absurd (not_both file (held file) status.Done text why about (text_is_due held file text h) k)
-    by (Stops why about) status.WriteFault ends k = absurd (not_both file (held file) status.Done text why about (text_is_due held file text h) k)
-    by due status.Usage ends k = absurd ends
-    by due status.Input ends k = absurd ends
-    by due status.NotAccepted ends k = absurd ends
-    by due status.ReadFault ends k = absurd ends
-    by due status.Memory ends k = absurd ends
-
--- a write that failed wrote a prefix of the due text
-pub prefix_written : (told : Option Held) (words : List (List ℕ)) (file text : List ℕ) (s : Status) (before after : Seen) → command_of words ≡ Some (Export file) → HoldsModule told file text → Ends s before after text → s ≡ status.WriteFault
-    → IfSome told (λ held. WrotePrefix words held before after)
-prefix_written None words file text s before after asked h ends e = tt
-prefix_written (Some held) words file text s before after asked h ends e =
-    let failed : Ends status.WriteFault before after text = subst (λ (x : Status). Ends x before after text) e ends in
-    record {
-      status = status.Done;
-      text = text;
-      due = subst (λ (c : Option Command). IsCommandDue c held (Writes status.Done text)) (sym asked) (text_is_due held file text h);
-      took = failed.0;
-    }
-
--- after a stop the due one, or memory ran out, or a count rose
-pub complete_stopped : (words : List (List ℕ)) (file : List ℕ) (files_before files_after : files.Seen) (before after : Seen) (why : Stop) (s : Status) → command_of words ≡ Some (Export file) → s ≡ status_of why
-    → Exports files_before files_after file (Err why) → IfSome files_before.held (λ held. (due : Due) → IsDue words held due → Follows due s files_before files_after before after)
-complete_stopped words file files_before files_after before after why s asked e exports = of files_before.held exports
-  where
-    stopped_at : (held : Held) (due : Due) (why : Stop) → Exports (record { held = Some held; faults = files_before.faults }) files_after file (Err why) → IsExportDue file (held file) due
-        → Follows due (status_of why) files_before files_after before after
-    stopped_at held (Writes d t) (stop.Input refusal) w k = absurd (not_both file (held file) d t (stop.Input refusal) file k w)
-    stopped_at held (Stops due about) (stop.Input refusal) w k = inl (ap status_of (same_stop file (held file) (stop.Input refusal) due file about w k))
-    stopped_at held (Writes d t) (stop.NotAccepted reason) w k = absurd (not_both file (held file) d t (stop.NotAccepted reason) file k w.1)
-    stopped_at held (Stops due about) (stop.NotAccepted reason) w k = inl (ap status_of (same_stop file (held file) (stop.NotAccepted reason) due file about w.1 k))
-    stopped_at held (Writes d t) stop.ReadFault w k = inr (inr (inl w))
-    stopped_at held (Stops due about) stop.ReadFault w k = inr (inr w)
-    stopped_at held (Writes d t) stop.Memory w k = inr (inl refl)
-    stopped_at held (Stops due about) stop.Memory w k = inr (inl refl)
-    stopped_at held due stop.Usage w k = absurd w
-    stopped_at held due stop.WriteFault w k = absurd w
-
-    of : (told : Option Held) → Exports (record { held = told; faults = files_before.faults }) files_after file (Err why) → IfSome told (λ held. (due : Due) → IsDue words held due → Follows due s files_before files_after before after)
-    of None w = tt
-    of (Some held) w = λ due is_due. rw e (stopped_at held due why w (subst (λ (c : Option Command). IsCommandDue c held due) asked is_due))
-
--- the line of a stop is that of the stop that is due
-pub said_stopped : (words : List (List ℕ)) (file : List ℕ) (files_before files_after : files.Seen) (before after : Seen) (why : Stop) (s : Status) → command_of words ≡ Some (Export file) → s ≡ status_of why
-    → Exports files_before files_after file (Err why) → Said before after (line_of why file) → SaidLine words files_before.held s before after
-said_stopped words file files_before files_after before after why s asked e exports said =
-    record { line = line_of why file; is_line = rw e (of files_before.held why exports); said = said }
-  where
-    of : (told : Option Held) (why : Stop) → Exports (record { held = told; faults = files_before.faults }) files_after file (Err why) → IsLine words told (status_of why) (line_of why file)
-    of (Some held) (stop.Input refusal) w = (stop.Input refusal, file, subst (λ (c : Option Command). IsCommandDue c held (Stops (stop.Input refusal) file)) (sym asked) w, refl, refl)
-    of None (stop.Input refusal) w = (file, refusal, asked, refl)
-    of (Some held) (stop.NotAccepted reason) w = (stop.NotAccepted reason, file, subst (λ (c : Option Command). IsCommandDue c held (Stops (stop.NotAccepted reason) file)) (sym asked) w.1, refl, refl)
-    of None (stop.NotAccepted reason) w = (file, reason, w.0, asked, refl)
-    of told stop.ReadFault w = (file, asked, refl)
-    of told stop.Memory w = refl
-    of told stop.Usage w = absurd w
-    of told stop.WriteFault w = absurd w

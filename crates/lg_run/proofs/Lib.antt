@@ -2,5 +2,10 @@ pub mod Dues
 pub mod Making
 pub mod OneSheetLemmas
 pub mod OneDue
+pub mod Commands
+pub mod VrunSteps
+pub mod DueRows
+pub mod Answering
 pub mod Pieces
 pub mod RefusalLines
+pub mod StaticRows

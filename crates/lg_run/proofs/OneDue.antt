@@ -1,4 +1,4 @@
--- Exactly one thing is due for words and contents.
+-- At most one thing is due for words and contents, and but for `vrun` one is.
 use Rattle.std.proofs.Common.{◌≡◌, ℕ, ◌^◌, ◌<◌, ◌≤◌, Bool, true, false, List, [], ◌∷◌, length, Option, Some, None, refl, sym, ap, subst, ◌∙◌, arith, inl, inr, ◌⊎◌}
 use Rattle.std.specs.Prelude.{nat_lt, MatchBool, All}
 use Rattle.std.specs.List.{list_all, zip}
@@ -20,15 +20,22 @@ use Rattle.lg_flatten.specs.Uses.{roles_of}
 use Rattle.lg_flatten.proofs.OneNetlist.{one_netlist}
 use Rattle.lg_flatten.proofs.SomeNetlist.{netlist_exists}
 use Rattle.lg_export.specs.Layout.{module_of}
+use Rattle.lg_verilog.specs.declared.module.Module.{Module}
 use Rattle.lg_verilog.specs.Printed.{module_text}
+use Rattle.lg_vmeaning.specs.Valid.{IsValid}
+use Rattle.lg_vrows.specs.declared.fault.ModuleFault.{ModuleFault}
+use Rattle.lg_vrows.specs.declared.fault.RowsFault.{RowsFault}
+use Rattle.lg_vrows.proofs.OneModule.{one_valid, no_fault as no_module_fault, one_fault as one_module_fault}
+use Rattle.lg_vrows.proofs.OneText.{one_text, no_fault as no_rows_fault, one_fault as one_rows_fault}
 use Rattle.lg_run.specs.declared.status.Status.{Status}
 use Rattle.lg_run.specs.declared.status.Status.TheVariants.{Done}
-use Rattle.lg_run.specs.declared.stop.Refusal.TheVariants.{Missing, TooLong, TooDeep, NotProject, NotBuilt}
+use Rattle.lg_run.specs.declared.stop.Refusal.TheVariants.{Missing, TooLong, TooDeep, NotProject, NotBuilt, OfModule, OfRows}
 use Rattle.lg_run.specs.declared.stop.Stop.{Stop}
 use Rattle.lg_run.specs.declared.stop.Stop.TheVariants.{Usage, Input, NotAccepted, ReadFault, WriteFault, Memory}
-use Rattle.lg_run.specs.Due.{Held, Due, Writes, Stops, IsModuleText, IsRefusedText, IsNoModule, IsModuleDue, IsExportDue, IsCommandDue, IsDue}
+use Rattle.lg_run.specs.declared.vrun.TheConstants.{MODULE_LENGTH, ROWS_LENGTH}
+use Rattle.lg_run.specs.Due.{Held, Due, Writes, Stops, IsModuleText, IsRefusedText, IsNoModule, IsModuleDue, IsExportDue, IsOutputsDue, IsRowsDue, IsValidDue, OnModule, NoModule, IsVrunDue, IsCommandDue, IsDueFor, IsDue}
 use Rattle.lg_run.specs.OneSheet.{IsBuilt, opens_with}
-use Rattle.lg_run.specs.Words.{Command, Export, command_of}
+use Rattle.lg_run.specs.Words.{Command, Export, Vrun, command_of}
 use Rattle.lg_run.proofs.OneSheetLemmas.{head_is, one_built}
 
 -- the project has a circuit that is built, or none
@@ -95,8 +102,8 @@ same_netlist bytes p q n m says_p says_q b c =
     m (subst (λ (r : Project). IsBuilt r m) same c)
 
 -- the text of the bytes' module is the only one
-one_text : (bytes text text' : List ℕ) → IsModuleText bytes text → IsModuleText bytes text' → text' ≡ text
-one_text bytes text text' t t' =
+one_printed : (bytes text text' : List ℕ) → IsModuleText bytes text → IsModuleText bytes text' → text' ≡ text
+one_printed bytes text text' t t' =
     let netlist : t'.netlist ≡ t.netlist = same_netlist bytes t.project t'.project t.netlist t'.netlist t.says t'.says t.built t'.built in
     t'.printed ∙ (ap (λ (n : Netlist). module_text (module_of n)) netlist ∙ sym t.printed)
 
@@ -124,6 +131,8 @@ no_text bytes (NotAccepted fault) text h t =
     accepted_not_refused h.netlist fault (subst IsAccepted netlist t.accepted) h.refused
 no_text bytes (Input Missing) text h t = h
 no_text bytes (Input TooLong) text h t = h
+no_text bytes (Input (OfModule fault)) text h t = h
+no_text bytes (Input (OfRows fault)) text h t = h
 no_text bytes Usage text h t = h
 no_text bytes ReadFault text h t = h
 no_text bytes WriteFault text h t = h
@@ -149,12 +158,16 @@ one_reason bytes (NotAccepted a) (Input NotBuilt) h k = absurd (built_once bytes
 one_reason bytes (NotAccepted a) (NotAccepted b) h k = ap (λ (reason : Refused). NotAccepted reason) (one_refused bytes a b h k)
 one_reason bytes (Input Missing) b h k = absurd h
 one_reason bytes (Input TooLong) b h k = absurd h
+one_reason bytes (Input (OfModule fault)) b h k = absurd h
+one_reason bytes (Input (OfRows fault)) b h k = absurd h
 one_reason bytes Usage b h k = absurd h
 one_reason bytes ReadFault b h k = absurd h
 one_reason bytes WriteFault b h k = absurd h
 one_reason bytes Memory b h k = absurd h
 one_reason bytes a (Input Missing) h k = absurd k
 one_reason bytes a (Input TooLong) h k = absurd k
+one_reason bytes a (Input (OfModule fault)) h k = absurd k
+one_reason bytes a (Input (OfRows fault)) h k = absurd k
 one_reason bytes a Usage h k = absurd k
 one_reason bytes a ReadFault h k = absurd k
 one_reason bytes a WriteFault h k = absurd k
@@ -164,7 +177,7 @@ of_module : (file bytes : List ℕ) → TextOrNot bytes → OneOf (IsModuleDue f
 of_module file bytes (inl (text, t)) = (Writes Done text, (refl, t), λ other h. same other h)
   where
     same : (other : Due) → IsModuleDue file bytes other → other ≡ Writes Done text
-    same (Writes s text') h = ap (λ (x : Status). Writes x text') h.0 ∙ ap (Writes Done) (one_text bytes text text' t h.1)
+    same (Writes s text') h = ap (λ (x : Status). Writes x text') h.0 ∙ ap (Writes Done) (one_printed bytes text text' t h.1)
     same (Stops why about) h = absurd (no_text bytes why text h.0 t)
 of_module file bytes (inr (stop, none)) = (Stops stop file, (none, refl), λ other h. same other h)
   where
@@ -180,10 +193,61 @@ of_file file (Some bytes) = by_limit (nat_lt GREATEST_LENGTH (length bytes)) ref
     by_limit true e = (Stops (Input TooLong) file, refl, λ other h. h)
     by_limit false e = of_module file bytes (text_or_not bytes (ltb-false GREATEST_LENGTH (length bytes) e))
 
-of_command : (command : Option Command) (held : Held) → OneOf (IsCommandDue command held)
-of_command None held = (Stops Usage [], refl, λ other h. h)
-of_command (Some (Export file)) held = of_file file (held file)
+-- ---- the rows of a module
 
--- for all words and contents exactly one thing is due
-pub one_due : (words : List (List ℕ)) (held : Held) → OneOf (IsDue words held)
-one_due words held = of_command (command_of words) held
+same_outputs : (m : Module) → IsValid m → (file bytes : List ℕ) (a b : Due) → IsOutputsDue m file bytes a → IsOutputsDue m file bytes b → a ≡ b
+same_outputs m valid file bytes (Writes s text) (Writes t other) h k = ap (λ (x : Status). Writes x text) (h.0 ∙ sym k.0) ∙ ap (Writes t) (one_text m valid bytes text other h.1 k.1)
+same_outputs m valid file bytes (Writes s text) (Stops why about) h k = absurd (no_rows_fault m valid bytes text k.1.0 k.1.1 k.1.2 h.1)
+same_outputs m valid file bytes (Stops why about) (Writes s text) h k = absurd (no_rows_fault m valid bytes text h.1.0 h.1.1 h.1.2 k.1)
+same_outputs m valid file bytes (Stops why about) (Stops other place) h k =
+    let fault : h.1.0 ≡ k.1.0 = one_rows_fault m valid bytes h.1.0 k.1.0 h.1.1 k.1.1 h.1.2 k.1.2 in
+    ap (λ (x : Stop). Stops x about) (h.1.3 ∙ (ap (λ (f : RowsFault). Input (OfRows f)) fault ∙ sym k.1.3)) ∙ ap (Stops other) (h.0 ∙ sym k.0)
+
+same_rows : (m : Module) → IsValid m → (file : List ℕ) (found : Option (List ℕ)) (a b : Due) → IsRowsDue m file found a → IsRowsDue m file found b → a ≡ b
+same_rows m valid file None a b h k = h ∙ sym k
+same_rows m valid file (Some bytes) a b h k = by (nat_lt ROWS_LENGTH (length bytes)) h k
+  where
+    by : (long : Bool) → MatchBool long (a ≡ Stops (Input TooLong) file) (IsOutputsDue m file bytes a) → MatchBool long (b ≡ Stops (Input TooLong) file) (IsOutputsDue m file bytes b) → a ≡ b
+    by true h k = h ∙ sym k
+    by false h k = same_outputs m valid file bytes a b h k
+
+same_valid : (of_module of_rows bytes : List ℕ) (rows : Option (List ℕ)) (a b : Due) → IsValidDue of_module of_rows bytes rows a → IsValidDue of_module of_rows bytes rows b → a ≡ b
+same_valid of_module of_rows bytes rows a b (OnModule m v h) (OnModule n w k) =
+    let same : n ≡ m = one_valid bytes n m w v in
+    same_rows m v.valid of_rows rows a b h (subst (λ (n : Module). IsRowsDue n of_rows rows b) same k)
+same_valid of_module of_rows bytes rows a b (OnModule m v h) (NoModule fault some is e) = absurd (no_module_fault bytes m fault some is v)
+same_valid of_module of_rows bytes rows a b (NoModule fault some is e) (OnModule m v h) = absurd (no_module_fault bytes m fault some is v)
+same_valid of_module of_rows bytes rows a b (NoModule fault some is e) (NoModule other more also f) =
+    let same : fault ≡ other = one_module_fault bytes fault other some more is also in
+    e ∙ (ap (λ (f : ModuleFault). Stops (Input (OfModule f)) of_module) same ∙ sym f)
+
+same_vrun : (of_module of_rows : List ℕ) (found rows : Option (List ℕ)) (a b : Due) → IsVrunDue of_module of_rows found rows a → IsVrunDue of_module of_rows found rows b → a ≡ b
+same_vrun of_module of_rows None rows a b h k = h ∙ sym k
+same_vrun of_module of_rows (Some bytes) rows a b h k = by (nat_lt MODULE_LENGTH (length bytes)) h k
+  where
+    by : (long : Bool) → MatchBool long (a ≡ Stops (Input TooLong) of_module) (IsValidDue of_module of_rows bytes rows a) → MatchBool long (b ≡ Stops (Input TooLong) of_module) (IsValidDue of_module of_rows bytes rows b) → a ≡ b
+    by true h k = h ∙ sym k
+    by false h k = same_valid of_module of_rows bytes rows a b h k
+
+-- ---- all commands
+
+same_command : (c : Command) (held : Held) (a b : Due) → IsCommandDue c held a → IsCommandDue c held b → a ≡ b
+same_command (Export file) held a b h k = let one = of_file file (held file) in one.2 a h ∙ sym (one.2 b k)
+same_command (Vrun of_module of_rows) held a b h k = same_vrun of_module of_rows (held of_module) (held of_rows) a b h k
+
+same_for : (asked : Option Command) (held : Held) (a b : Due) → IsDueFor asked held a → IsDueFor asked held b → a ≡ b
+same_for None held a b h k = h ∙ sym k
+same_for (Some c) held a b h k = same_command c held a b h k
+
+-- at most one thing is due
+pub same_due : (words : List (List ℕ)) (held : Held) (a b : Due) → IsDue words held a → IsDue words held b → a ≡ b
+same_due words held a b h k = same_for (command_of words) held a b h k
+
+-- and something is, but for `vrun`
+pub some_due : (words : List (List ℕ)) (held : Held) → ((of_module of_rows : List ℕ) → command_of words ≡ Some (Vrun of_module of_rows) → ⊥) → (due : Due) × IsDue words held due
+some_due words held other = by (command_of words) other
+  where
+    by : (asked : Option Command) → ((of_module of_rows : List ℕ) → asked ≡ Some (Vrun of_module of_rows) → ⊥) → (due : Due) × IsDueFor asked held due
+    by None other = (Stops Usage [], refl)
+    by (Some (Export file)) other = let one = of_file file (held file) in (one.0, one.1)
+    by (Some (Vrun of_module of_rows)) other = absurd (other of_module of_rows refl)

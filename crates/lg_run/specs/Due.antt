@@ -1,8 +1,8 @@
 -- What is due for some words and some files: a text with its status, or the first stop in the order of the verb's steps.
-use Rattle.std.specs.Prelude.{◌≡◌, ℕ, ◌≤◌, List, [], length, Option, Some, None, nat_lt, MatchBool}
+use Rattle.std.specs.Prelude.{◌≡◌, ◌≢◌, ℕ, ◌≤◌, List, [], length, Option, Some, None, nat_lt, MatchBool, ◌⊎◌}
 use Rattle.lg_run.specs.declared.status.Status.{Status}
 use Rattle.lg_run.specs.declared.status.Status.TheVariants.{Done}
-use Rattle.lg_run.specs.declared.stop.Refusal.TheVariants.{Missing, TooLong, TooDeep, NotProject, NotBuilt}
+use Rattle.lg_run.specs.declared.stop.Refusal.TheVariants.{Missing, TooLong, TooDeep, NotProject, NotBuilt, OfModule, OfRows}
 use Rattle.lg_run.specs.declared.stop.Stop.{Stop}
 use Rattle.lg_run.specs.declared.stop.Stop.TheVariants.{Usage, Input, NotAccepted, ReadFault, WriteFault, Memory}
 use Rattle.lg_circ.specs.declared.read.TheConstants.{GREATEST_LENGTH}
@@ -17,7 +17,20 @@ use Rattle.lg_netlist.specs.Acceptance.{IsAccepted, IsRefused}
 use Rattle.lg_verilog.specs.Grammar.{IsModuleText as IsTextOf}
 use Rattle.lg_verilog.specs.Printed.{module_text}
 use Rattle.lg_run.specs.OneSheet.{IsBuilt, IsNotBuilt}
-use Rattle.lg_run.specs.Words.{Command, Export, command_of}
+use Rattle.lg_run.specs.Words.{Command, Export, Vrun, command_of}
+use Rattle.lg_verilog.specs.declared.module.Module.{Module}
+use Rattle.lg_vrows.specs.Due.{IsValidText, IsModuleFault, IsRowsText, IsRowsFault}
+use Rattle.lg_vrows.specs.declared.fault.ModuleFault.{ModuleFault}
+use Rattle.lg_vrows.specs.declared.fault.ModuleFault.TheVariants as module_fault
+use Rattle.lg_vrows.specs.declared.fault.RowsFault.{RowsFault}
+use Rattle.lg_vrows.specs.declared.fault.RowsFault.TheVariants as rows_fault
+
+-- how many bytes a file has at most: one with a module, and one with rows
+abbrev pub module_length : ℕ
+module_length = 134217728
+
+abbrev pub rows_length : ℕ
+rows_length = 16777216
 
 -- a text for the output with the status after it, or the stop that the run ends with, about a file
 pub data Due : Type 0 where
@@ -65,6 +78,8 @@ IsNoModule bytes (Input NotBuilt) = (project : Project) × SaysProject bytes pro
 IsNoModule bytes (NotAccepted reason) = IsRefusedText bytes reason
 IsNoModule bytes (Input Missing) = ⊥
 IsNoModule bytes (Input TooLong) = ⊥
+IsNoModule bytes (Input (OfModule fault)) = ⊥
+IsNoModule bytes (Input (OfRows fault)) = ⊥
 IsNoModule bytes Usage = ⊥
 IsNoModule bytes ReadFault = ⊥
 IsNoModule bytes WriteFault = ⊥
@@ -81,11 +96,46 @@ IsExportDue file None due = due ≡ Stops (Input Missing) file
 IsExportDue file (Some bytes) due =
     MatchBool (nat_lt GREATEST_LENGTH (length bytes)) (due ≡ Stops (Input TooLong) file) (IsModuleDue file bytes due)
 
+-- the text of the outputs of a module on the rows in a file, or why there is none
+abbrev pub IsOutputsDue : Module → List ℕ → List ℕ → Due → Type 0
+IsOutputsDue m file bytes (Writes status text) = (status ≡ Done) × IsRowsText m bytes text
+IsOutputsDue m file bytes (Stops stop about) =
+    (about ≡ file) × ((fault : RowsFault) × (fault ≢ rows_fault.Memory) × IsRowsFault m bytes fault × (stop ≡ Input (OfRows fault)))
+
+-- of the file of rows, by what it holds
+abbrev pub IsRowsDue : Module → List ℕ → Option (List ℕ) → Due → Type 0
+IsRowsDue m file None due = due ≡ Stops (Input Missing) file
+IsRowsDue m file (Some bytes) due = MatchBool (nat_lt rows_length (length bytes)) (due ≡ Stops (Input TooLong) file) (IsOutputsDue m file bytes due)
+
+-- the rows on the valid module of some bytes, or why they have none
+pub data IsValidDue (of_module of_rows bytes : List ℕ) (rows : Option (List ℕ)) (due : Due) : Type 0 where
+  OnModule : (m : Module) → IsValidText bytes m → IsRowsDue m of_rows rows due → IsValidDue of_module of_rows bytes rows due
+  NoModule : (fault : ModuleFault) → fault ≢ module_fault.Memory → IsModuleFault bytes fault → due ≡ Stops (Input (OfModule fault)) of_module
+      → IsValidDue of_module of_rows bytes rows due
+
+-- the module comes before the rows
+abbrev pub IsVrunDue : List ℕ → List ℕ → Option (List ℕ) → Option (List ℕ) → Due → Type 0
+IsVrunDue of_module of_rows None rows due = due ≡ Stops (Input Missing) of_module
+IsVrunDue of_module of_rows (Some bytes) rows due =
+    MatchBool (nat_lt module_length (length bytes)) (due ≡ Stops (Input TooLong) of_module) (IsValidDue of_module of_rows bytes rows due)
+
 -- a case for each command
-abbrev pub IsCommandDue : Option Command → Held → Due → Type 0
-IsCommandDue None held due = due ≡ Stops Usage []
-IsCommandDue (Some (Export file)) held due = IsExportDue file (held file) due
+abbrev pub IsCommandDue : Command → Held → Due → Type 0
+IsCommandDue (Export file) held due = IsExportDue file (held file) due
+IsCommandDue (Vrun of_module of_rows) held due = IsVrunDue of_module of_rows (held of_module) (held of_rows) due
+
+-- the command's steps read the file: the rows only after the module was found valid
+abbrev pub Reads : Command → Held → List ℕ → Type 0
+Reads (Export file) held about = about ≡ file
+Reads (Vrun of_module of_rows) held about =
+    (about ≡ of_module)
+    ⊎ ((about ≡ of_rows) × ((bytes : List ℕ) × (m : Module) × (held of_module ≡ Some bytes) × (length bytes ≤ module_length) × IsValidText bytes m))
+
+-- words that are no command are told how commands are written
+abbrev pub IsDueFor : Option Command → Held → Due → Type 0
+IsDueFor None held due = due ≡ Stops Usage []
+IsDueFor (Some c) held due = IsCommandDue c held due
 
 -- this is due for the words where the files hold this
 abbrev pub IsDue : List (List ℕ) → Held → Due → Type 0
-IsDue words held due = IsCommandDue (command_of words) held due
+IsDue words held due = IsDueFor (command_of words) held due

@@ -3,5 +3,7 @@ pub mod Words
 pub mod Lines
 pub mod Stops
 pub mod Due
+pub mod Answered
 pub mod Exported
 pub mod Outcome
+pub mod StaticText

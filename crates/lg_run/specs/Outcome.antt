@@ -10,9 +10,9 @@ use Rattle.lg_run.specs.declared.status.Status.TheVariants as status
 use Rattle.lg_run.specs.declared.stop.Refusal.{Refusal}
 use Rattle.lg_run.specs.declared.stop.Stop.{Stop}
 use Rattle.lg_run.specs.declared.stop.Stop.TheVariants as stop
-use Rattle.lg_run.specs.Due.{Held, Due, Writes, Stops, IsDue, IsAgreedText}
+use Rattle.lg_run.specs.Due.{Held, Due, Writes, Stops, IsDue, IsAgreedText, Reads}
 use Rattle.lg_run.specs.Lines.{status_of, line_of}
-use Rattle.lg_run.specs.Words.{Export, command_of}
+use Rattle.lg_run.specs.Words.{Command, Export, command_of, NamesFile}
 
 -- the exit status
 abbrev pub code_of : Status → ℕ
@@ -38,14 +38,16 @@ pub record WrotePrefix (words : List (List ℕ)) (held : Held) (before after : S
   pub took : TookPrefix before after text
 
 -- the text that was taken is that of a module which agrees with the netlist of the project in the named file
-pub record WroteAgreed (words : List (List ℕ)) (held : Held) (before after : Seen) : Type 0 where
-  pub file : List ℕ
+pub record WroteAgreed (file : List ℕ) (held : Held) (before after : Seen) : Type 0 where
   pub bytes : List ℕ
   pub text : List ℕ
-  pub asked : command_of words ≡ Some (Export file)
   pub holds : held file ≡ Some bytes
   pub agreed : IsAgreedText bytes text
   pub took : Took before after text
+
+-- so it is where the words ask for an export
+abbrev pub AgreesIfExported : List (List ℕ) → Held → Seen → Seen → Type 0
+AgreesIfExported words held before after = (file : List ℕ) → command_of words ≡ Some (Export file) → WroteAgreed file held before after
 
 -- how a write of the text that was asked for ended: all of it was taken, or a prefix of it and the count rose
 abbrev pub Ends : Status → Seen → Seen → List ℕ → Type 0
@@ -63,15 +65,17 @@ KeepsOutput before after status.NotAccepted = after ≡ before
 KeepsOutput before after status.ReadFault = after ≡ before
 KeepsOutput before after status.Memory = after ≡ before
 
--- the stop after which a run ends with this line; for a refusal it is the one that is due, or where the files tell nothing some refusal
+-- the stop after which a run ends with this line; where the files tell, a refusal is the one that is due, and a read that failed
+-- is one of the command's steps; where they tell nothing it is some refusal, and some file of the command
 abbrev pub IsLine : List (List ℕ) → Option Held → Status → List ℕ → Type 0
 IsLine words told status.Done line = line ≡ []
 IsLine words told status.Usage line = line ≡ line_of stop.Usage []
 IsLine words (Some held) status.Input line = (stop : Stop) × (file : List ℕ) × IsDue words held (Stops stop file) × (status_of stop ≡ status.Input) × (line ≡ line_of stop file)
-IsLine words None status.Input line = (file : List ℕ) × (refusal : Refusal) × (command_of words ≡ Some (Export file)) × (line ≡ line_of (stop.Input refusal) file)
+IsLine words None status.Input line = (file : List ℕ) × (refusal : Refusal) × NamesFile words file × (line ≡ line_of (stop.Input refusal) file)
 IsLine words (Some held) status.NotAccepted line = (stop : Stop) × (file : List ℕ) × IsDue words held (Stops stop file) × (status_of stop ≡ status.NotAccepted) × (line ≡ line_of stop file)
-IsLine words None status.NotAccepted line = (file : List ℕ) × (refusal : NotAccepted) × (refusal ≢ not_accepted.Memory) × (command_of words ≡ Some (Export file)) × (line ≡ line_of (stop.NotAccepted refusal) file)
-IsLine words told status.ReadFault line = (file : List ℕ) × (command_of words ≡ Some (Export file)) × (line ≡ line_of stop.ReadFault file)
+IsLine words None status.NotAccepted line = (file : List ℕ) × (refusal : NotAccepted) × (refusal ≢ not_accepted.Memory) × NamesFile words file × (line ≡ line_of (stop.NotAccepted refusal) file)
+IsLine words (Some held) status.ReadFault line = (file : List ℕ) × (c : Command) × (command_of words ≡ Some c) × Reads c held file × (line ≡ line_of stop.ReadFault file)
+IsLine words None status.ReadFault line = (file : List ℕ) × NamesFile words file × (line ≡ line_of stop.ReadFault file)
 IsLine words told status.WriteFault line = line ≡ line_of stop.WriteFault []
 IsLine words told status.Memory line = line ≡ line_of stop.Memory []
 

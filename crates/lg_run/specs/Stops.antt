@@ -5,9 +5,13 @@ use Rattle.lg_circ.specs.declared.fault.CircFault.{CircFault}
 use Rattle.lg_circ.specs.declared.fault.CircFault.TheVariants as circ
 use Rattle.lg_netlist.specs.declared.acceptance.NotAccepted.{NotAccepted}
 use Rattle.lg_netlist.specs.declared.acceptance.NotAccepted.TheVariants as refusal
+use Rattle.lg_vrows.specs.declared.fault.ModuleFault.{ModuleFault}
+use Rattle.lg_vrows.specs.declared.fault.ModuleFault.TheVariants as module_fault
+use Rattle.lg_vrows.specs.declared.fault.RowsFault.{RowsFault}
+use Rattle.lg_vrows.specs.declared.fault.RowsFault.TheVariants as rows_fault
 use Rattle.lg_run.specs.declared.one_sheet.EarlyFault.{EarlyFault}
 use Rattle.lg_run.specs.declared.one_sheet.EarlyFault.TheVariants as early
-use Rattle.lg_run.specs.declared.stop.Refusal.TheVariants.{Missing, TooLong, TooDeep, NotProject, NotBuilt}
+use Rattle.lg_run.specs.declared.stop.Refusal.TheVariants.{Missing, TooLong, TooDeep, NotProject, NotBuilt, OfModule, OfRows}
 use Rattle.lg_run.specs.declared.stop.Stop.{Stop}
 use Rattle.lg_run.specs.declared.stop.Stop.TheVariants as stop
 
@@ -32,3 +36,14 @@ not_accepted_stop (refusal.ManyDrivers net first second) = stop.NotAccepted (ref
 not_accepted_stop (refusal.Undriven part port) = stop.NotAccepted (refusal.Undriven part port)
 not_accepted_stop (refusal.Cycle part) = stop.NotAccepted (refusal.Cycle part)
 not_accepted_stop refusal.Memory = stop.Memory
+
+abbrev pub module_stop : ModuleFault → Stop
+module_stop module_fault.NotSubset = stop.Input (OfModule module_fault.NotSubset)
+module_stop (module_fault.NotValid rule) = stop.Input (OfModule (module_fault.NotValid rule))
+module_stop (module_fault.Cyclic wire) = stop.Input (OfModule (module_fault.Cyclic wire))
+module_stop module_fault.Memory = stop.Memory
+
+abbrev pub rows_stop : RowsFault → Stop
+rows_stop (rows_fault.Vector fault) = stop.Input (OfRows (rows_fault.Vector fault))
+rows_stop (rows_fault.Undefined row) = stop.Input (OfRows (rows_fault.Undefined row))
+rows_stop rows_fault.Memory = stop.Memory

@@ -1,8 +1,9 @@
 -- The words of the command line, and what they ask for.
-use Rattle.std.specs.Prelude.{ℕ, ◌==◌, Bool, false, ◌&&◌, not, List, [], ◌∷◌, map, Option, Some, None, if◌then◌else◌, codes, String, string_bytes}
+use Rattle.std.specs.Prelude.{◌≡◌, ℕ, ◌==◌, Bool, false, ◌&&◌, not, List, [], ◌∷◌, map, Option, Some, None, ◌⊎◌, if◌then◌else◌, codes, String, string_bytes}
 use Rattle.std.specs.declared.alloc.Global.{Global}
 use Rattle.std.specs.Str.{bytes_eq}
-use denote.Ref.{Bor}
+use Rattle.lg_run.specs.declared.words.Asked.{Asked}
+use Rattle.lg_run.specs.declared.words.Asked.TheVariants as asked
 
 -- the words as their bytes
 abbrev pub words_of : List (String Global) → List (List ℕ)
@@ -12,18 +13,35 @@ words_of words = map string_bytes words
 pub data Command : Type 0 where
   -- the module of the circuit in this project file
   Export : (file : List ℕ) → Command
+  -- the outputs of the module in one file on the rows in another
+  Vrun : (of_module of_rows : List ℕ) → Command
 
 -- a word that can be a positional: it is not empty and does not begin with `-`
 abbrev pub is_positional : List ℕ → Bool
 is_positional [] = false
 is_positional (c ∷ cs) = not (c == 45)
 
--- the command of two words, and none for others
+-- the command of a verb and its positionals, and none for other words
 abbrev pub command_of : List (List ℕ) → Option Command
 command_of (verb ∷ file ∷ []) = if bytes_eq verb (codes "export") && is_positional file then Some (Export file) else None
+command_of (verb ∷ of_module ∷ of_rows ∷ []) =
+    if bytes_eq verb (codes "vrun") && (is_positional of_module && is_positional of_rows) then Some (Vrun of_module of_rows) else None
 command_of _ = None
 
--- the command to export a project file, where there is one
-abbrev pub asks_export : Option (Bor (List ℕ)) → Option Command
-asks_export None = None
-asks_export (Some file) = Some (Export file.now)
+-- the command that was read, where there is one
+abbrev pub command : Asked → Command
+command (asked.Export file) = Export file.now
+command (asked.Vrun of_module of_rows) = Vrun of_module.now of_rows.now
+
+abbrev pub asks : Option Asked → Option Command
+asks None = None
+asks (Some a) = Some (command a)
+
+-- the command names the file
+abbrev pub Names : Command → List ℕ → Type 0
+Names (Export file) about = about ≡ file
+Names (Vrun of_module of_rows) about = (about ≡ of_module) ⊎ (about ≡ of_rows)
+
+-- the words ask for something that names the file
+abbrev pub NamesFile : List (List ℕ) → List ℕ → Type 0
+NamesFile words file = (c : Command) × (command_of words ≡ Some c) × Names c file

@@ -3,25 +3,29 @@
 ghost use Rattle.std.specs.Prelude.{◌≡◌, ◌≤◌, ◌++◌, codes};
 ghost use Rattle.std.specs.List.{flat_map};
 ghost use Rattle.lg_io.specs.Sink.{Said, Wrote};
-ghost use Rattle.lg_run.specs.Lines.{status_of, refusal_ending, not_accepted_text, line_of};
-ghost use Rattle.lg_run.specs.Stops.{file_stop, circ_stop, early_stop, not_accepted_stop};
+ghost use Rattle.lg_run.specs.Lines.{status_of, refusal_text, not_accepted_text, line_of};
+ghost use Rattle.lg_run.specs.Stops.{file_stop, circ_stop, early_stop, not_accepted_stop, module_stop, rows_stop};
 ghost use Rattle.lg_run.specs.declared.stop.Stop.TheVariants as stop;
 
 use crate::one_sheet::EarlyFault;
+use crate::reason::put_reason;
 use crate::status::Status;
 use itoa::Buffer;
 use lg_circ::CircFault;
 use lg_io::{FileFault, Sink, SinkFault, write_all};
 use lg_netlist::NotAccepted;
+use lg_vrows::{ModuleFault, RowsFault};
 
 /// Why an input is refused.
-#[derive(Clone, Copy, Debug, PartialEq, Eq)]
+#[derive(Debug, Drop)]
 pub enum Refusal {
     Missing,
     TooLong,
     TooDeep,
     NotProject,
     NotBuilt,
+    OfModule(ModuleFault),
+    OfRows(RowsFault),
 }
 
 /// Why a run stops before its end.
@@ -83,6 +87,28 @@ impl From<NotAccepted> for Stop {
     }
 }
 
+impl From<ModuleFault> for Stop {
+    ghost from_gives = { λ fault stop. stop ≡ module_stop fault };
+
+    fn from(fault: ModuleFault) -> Stop {
+        match fault {
+            ModuleFault::Memory => Stop::Memory,
+            refusal => Stop::Input(Refusal::OfModule(refusal)),
+        }
+    }
+}
+
+impl From<RowsFault> for Stop {
+    ghost from_gives = { λ fault stop. stop ≡ rows_stop fault };
+
+    fn from(fault: RowsFault) -> Stop {
+        match fault {
+            RowsFault::Memory => Stop::Memory,
+            refusal => Stop::Input(Refusal::OfRows(refusal)),
+        }
+    }
+}
+
 impl From<lg_verilog::Memory> for Stop {
     ghost from_gives = { λ _ stopped. stopped ≡ stop.Memory };
 
@@ -121,7 +147,7 @@ impl Stop {
     {
         match self {
             Stop::Usage => put(err, "lg: usage: lg VERB [OPTIONS] ARGUMENTS\n"),
-            Stop::Input(refusal) => put_about(err, "lg: input: ", file, refusal.ending()),
+            Stop::Input(refusal) => put_input(err, file, refusal),
             Stop::NotAccepted(refusal) => put_refusal(err, refusal),
             Stop::ReadFault => put_about(err, "lg: read fault: ", file, "\n"),
             Stop::WriteFault => put(err, "lg: write fault\n"),
@@ -130,19 +156,14 @@ impl Stop {
     }
 }
 
-impl Refusal {
-    // How the line of the refusal ends: behind the file.
-    fn ending(self) -> &'static str
-        ensures { result.now ≡ refusal_ending self }
-    {
-        match self {
-            Refusal::Missing => ": Missing\n",
-            Refusal::TooLong => ": TooLong\n",
-            Refusal::TooDeep => ": TooDeep\n",
-            Refusal::NotProject => ": NotProject\n",
-            Refusal::NotBuilt => ": NotBuilt\n",
-        }
-    }
+// Writes the line of an input that is refused.
+fn put_input<E: Sink>(err: &mut E, file: &str, refusal: &Refusal) -> Result<(), SinkFault>
+    ensures { Wrote result (E.seen err.old) (E.seen err.new)
+        (codes "lg: input: " ++ file.now ++ codes ": " ++ refusal_text refusal.now ++ codes "\n") }
+{
+    put_about(err, "lg: input: ", file, ": ")?;
+    put_reason(err, refusal)?;
+    put(err, "\n")
 }
 
 // Writes the line of a netlist that is not accepted.
@@ -174,7 +195,8 @@ fn put_refusal<E: Sink>(err: &mut E, refusal: &NotAccepted) -> Result<(), SinkFa
 
 // Writes what stands before a file's name, the name, and what stands behind it.
 fn put_about<E: Sink>(err: &mut E, before: &str, file: &str, after: &str) -> Result<(), SinkFault>
-    ensures { Wrote result (E.seen err.old) (E.seen err.new) (before.now ++ file.now ++ after.now) }
+    ensures wrote { Wrote result (E.seen err.old) (E.seen err.new) (before.now ++ file.now ++ after.now) }
+    ensures never_falls { (E.seen err.old).faults ≤ (E.seen err.new).faults }
 {
     put(err, before)?;
     put(err, file)?;
@@ -191,7 +213,7 @@ fn put_all<E: Sink>(err: &mut E, texts: &[&str]) -> Result<(), SinkFault>
     Ok(())
 }
 
-fn put<E: Sink>(err: &mut E, text: &str) -> Result<(), SinkFault>
+pub(crate) fn put<E: Sink>(err: &mut E, text: &str) -> Result<(), SinkFault>
     ensures wrote { Wrote result (E.seen err.old) (E.seen err.new) text.now }
     ensures never_falls { (E.seen err.old).faults ≤ (E.seen err.new).faults }
 {

@@ -6,13 +6,13 @@ ghost use Rattle.lg_io.specs.Sink.{Said};
 ghost use Rattle.lg_run.specs.Words.{words_of, command_of};
 ghost use Rattle.lg_run.specs.Due.{Due, IsDue};
 ghost use Rattle.lg_run.specs.Lines.{line_of};
-ghost use Rattle.lg_run.specs.Outcome.{WroteDue, WrotePrefix, WroteAgreed, KeepsOutput, SaidLine, Follows, Ends};
+ghost use Rattle.lg_run.specs.Outcome.{WroteDue, WrotePrefix, AgreesIfExported, KeepsOutput, SaidLine, Follows, Ends};
 ghost use Rattle.lg_run.specs.declared.stop.Stop.TheVariants as stop;
 
-use crate::export::export;
+use crate::command::text_of;
 use crate::status::Status;
 use crate::stop::Stop;
-use crate::words::file_to_export;
+use crate::words::read_words;
 use lg_io::{Files, Sink, write_all};
 use std::alloc::Global;
 
@@ -30,11 +30,11 @@ pub fn run<F: Files, O: Sink, E: Sink>(
     // Where the files tell what they hold, the output has taken the due text and nothing else ..
     ensures done { result ≡ Status.Done → IfSome (F.seen files.old).held
         (λ held. WroteDue (words_of words.now) held result (O.seen out.old) (O.seen out.new)) }
-    // .. which is that of a valid module whose outputs, on each list of rows of defined inputs, are those of the static
-    // rows; and at each limit that is at least the longest chain's delay such rows have exactly one session table, in which
+    // .. which, of an export, is that of a valid module whose outputs, on each list of rows of defined inputs, are those of
+    // the static rows; and at each limit that is at least the longest chain's delay such rows have exactly one session table, in which
     // each row settles within that delay, on the module's outputs.
     ensures agrees { result ≡ Status.Done → IfSome (F.seen files.old).held
-        (λ held. WroteAgreed (words_of words.now) held (O.seen out.old) (O.seen out.new)) }
+        (λ held. AgreesIfExported (words_of words.now) held (O.seen out.old) (O.seen out.new)) }
 
     // A fault comes only where its count rose.
     ensures read_fault { result ≡ Status.ReadFault →
@@ -52,17 +52,18 @@ pub fn run<F: Files, O: Sink, E: Sink>(
         (λ held. (due : Due) → IsDue (words_of words.now) held due →
         Follows due result (F.seen files.old) (F.seen files.new) (O.seen out.old) (O.seen out.new)) }
 
-    // The status's line was said; for an input and for a circuit that is not accepted, that of the stop that is due.
+    // The status's line was said; for an input and for a circuit that is not accepted, where the files tell what they hold,
+    // that of the stop that is due; for a read fault, that of a file that is read so far.
     ensures said { SaidLine (words_of words.now) (F.seen files.old).held result (E.seen err.old) (E.seen err.new) }
 
     ensures same_files { (F.seen files.new).held ≡ (F.seen files.old).held }
 {
-    let Some(file) = file_to_export(words) else {
+    let Some(asked) = read_words(words) else {
         return Stop::Usage.end("", err);
     };
-    match export(alloc, file, files) {
+    match text_of(alloc, &asked, files) {
         Ok(text) => write(text.as_slice(), out, err),
-        Err(stop) => stop.end(file, err),
+        Err(stopped) => stopped.stop.end(stopped.file, err),
     }
 }
 

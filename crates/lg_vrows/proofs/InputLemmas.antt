@@ -93,6 +93,11 @@ all_done done inputs places row numbers end so = record {
   each = λ column place value e f. so.each column place value (end column (slice_get_within places column place e) (slice_get_within row column value f)) e f;
 }
 
+pub item_at : {X : Type 0} (xs : List X) (i : ℕ) → i < length xs → (x : X) × (slice_get xs i ≡ Some x)
+item_at [] i lt = absurd (omega (arith, lt))
+item_at (x ∷ xs) zero lt = (x, refl)
+item_at (x ∷ xs) (suc i) lt = item_at xs i (omega (arith, lt))
+
 -- a value of a row has its column's width
 value_of : (columns : List Column) (row : List CaredBits) → IsRowOf columns row → (k : ℕ) (column : Column) → slice_get columns k ≡ Some column → (value : CaredBits) × (slice_get row k ≡ Some value) × (length value.bits ≡ column.width)
 value_of columns row is k column e = step (slice_get row k) refl
@@ -141,11 +146,6 @@ module _ (pins : List PinShape) (columns : List Column) (places : List ℕ) (dif
           let pin = item_at pins i (subst (λ (n : ℕ). i < n) are.count lt) in
           let v = number_at row numbers is are i pin.0 pin.1 in
           are.each v.0 i v.1 v.2 v.3 ∙ sym (again.each v.0 i v.1 v.2 v.3)
-        where
-          item_at : {X : Type 0} (xs : List X) (i : ℕ) → i < length xs → (x : X) × (slice_get xs i ≡ Some x)
-          item_at [] i lt = absurd (omega (arith, lt))
-          item_at (x ∷ xs) zero lt = (x, refl)
-          item_at (x ∷ xs) (suc i) lt = item_at xs i (omega (arith, lt))
 
   pub one_rows : (rows : List (List CaredBits)) (inputs others : List (List ℕ)) → All (IsRowOf columns) rows → AllZip (AreInputs (length pins) places) rows inputs → AllZip (AreInputs (length pins) places) rows others → inputs ≡ others
   one_rows [] [] [] all are again = refl

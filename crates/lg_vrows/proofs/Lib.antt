@@ -9,3 +9,5 @@ pub mod OneRows
 pub mod OneVector
 pub mod OneFault
 pub mod OneText
+pub mod SomeOrder
+pub mod SomeText

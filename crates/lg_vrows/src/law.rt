@@ -1,8 +1,9 @@
 //! Laws of what is due.
 
-ghost use Rattle.std.specs.Prelude.{◌≡◌, ◌≢◌, ℕ, List};
+ghost use Rattle.std.specs.Prelude.{◌≡◌, ◌≢◌, ℕ, List, All};
 ghost use Rattle.lg_verilog.specs.declared.module.Module.{Module as Tree};
 ghost use Rattle.lg_vmeaning.specs.Valid.{IsValid};
+ghost use Rattle.lg_vrows.specs.Rows.{AreBoundRows, IsDefinedRow};
 ghost use Rattle.lg_vrows.specs.Due.{IsValidText, IsModuleFault, IsRowsText, IsRowsFault};
 ghost use Rattle.lg_vrows.specs.declared.fault.ModuleFault.{ModuleFault as NoModule};
 ghost use Rattle.lg_vrows.specs.declared.fault.ModuleFault.TheVariants.{Memory as NoMemory};
@@ -26,4 +27,10 @@ pub fn rows_have_one_answer()
         IsRowsFault m bytes fault → IsRowsText m bytes text → ⊥ }
     ensures one_fault { (m : Tree) → IsValid m → (bytes : List ℕ) (fault other : NoRows) → fault ≢ NoMemoryLeft → other ≢ NoMemoryLeft →
         IsRowsFault m bytes fault → IsRowsFault m bytes other → fault ≡ other }
+{}
+
+/// Rows that are bound to the inputs of a valid module and defined have a text of outputs.
+pub fn defined_rows_have_outputs()
+    ensures { (m : Tree) → IsValid m → (bytes : List ℕ) (given : AreBoundRows m bytes) → All IsDefinedRow given.rows →
+        (text : List ℕ) × IsRowsText m bytes text }
 {}

@@ -12,6 +12,6 @@ mod text;
 mod vrun;
 
 pub use fault::{ModuleFault, RowsFault};
-pub use law::{modules_have_one_answer, rows_have_one_answer};
+pub use law::{defined_rows_have_outputs, modules_have_one_answer, rows_have_one_answer};
 pub use reading::valid_module;
 pub use vrun::rows_text;

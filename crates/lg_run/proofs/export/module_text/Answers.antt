@@ -48,7 +48,7 @@ returns c =
             let same = c.in_ok-project.ensures.only t.project t.says c.in_ok-project.ensures.within in
             let one = c.in_ok-netlist.ensures.only t.netlist (subst (λ (p : Project). IsBuilt p t.netlist) (sym same) t.built) in
             t.printed ∙ (ap (λ (n : Netlist). module_text (module_of n)) one ∙ sym (c.in_ok-print.ensures.text ∙ ap module_text c.in_ok-module.ensures.layout));
-        in_grammar = subst (IsTextOf c.in_ok-print.text.items) c.in_ok-module.ensures.layout c.in_ok-print.ensures.read_again;
+        in_grammar = subst (IsTextOf c.in_ok-print.field-0.items) c.in_ok-module.ensures.layout c.in_ok-print.ensures.read_again;
         agrees = subst (λ (m : Module). Agrees netlist m) c.in_ok-module.ensures.layout c.in_ok-module.ensures.agrees;
         in_time = subst (λ (m : Module). AgreesInTime netlist m) c.in_ok-module.ensures.layout c.in_ok-module.ensures.in_time;
       },
