@@ -1,5 +1,5 @@
 -- The answer of each command from those of its steps.
-use Rattle.std.proofs.Common.{◌≡◌, ℕ, ◌≤◌, List, length, Option, Some, None, Result, Ok, Err, Vec, Bor, Global, refl, sym, subst, inl, inr}
+use Rattle.std.proofs.Common.{◌≡◌, ℕ, ◌≤◌, List, length, Option, Some, None, Ok, Err, Vec, Bor, Global, refl, inl, inr}
 use Rattle.std.specs.Prelude.{IfSome}
 use Rattle.lg_io.specs.Files.{Seen}
 use Rattle.lg_verilog.specs.declared.module.Module.{Module}
@@ -7,7 +7,6 @@ use Rattle.lg_vrows.specs.Due.{IsValidText}
 use Rattle.lg_run.specs.declared.status.Status.TheVariants.{Done}
 use Rattle.lg_run.specs.declared.stop.Stop.{Stop}
 use Rattle.lg_run.specs.declared.stop.Stop.TheVariants as stop
-use Rattle.lg_run.specs.declared.stopped.Stopped.{Stopped}
 use Rattle.lg_run.specs.Answered.{ModuleAnswers, OutputsAnswers, AgreesFor, FailsRightly, Answers}
 use Rattle.lg_run.specs.Due.{Held, Writes, module_length, IsCommandDue, IsVrunDue}
 use Rattle.lg_run.specs.Exported.{Exports, HoldsModule}

@@ -1,5 +1,5 @@
 -- What the steps of a command answer is what is due for its words.
-use Rattle.std.proofs.Common.{◌≡◌, ℕ, List, [], Option, Some, None, Result, Ok, Err, Vec, Bor, Global, refl, sym, ap, subst, ◌∙◌, inl, inr, ◌⊎◌}
+use Rattle.std.proofs.Common.{◌≡◌, ℕ, List, Option, Some, None, refl, sym, subst, ◌∙◌, inl, inr}
 use Rattle.std.specs.Prelude.{IfSome}
 use Rattle.std.proofs.lemmas.Option.{same_Some}
 use Rattle.lg_io.specs.Files as files
@@ -11,7 +11,7 @@ use Rattle.lg_run.specs.declared.stop.Stop.TheVariants as stop
 use Rattle.lg_run.specs.Answered.{StopsRightly, FailsRightly, AgreesFor}
 use Rattle.lg_run.specs.Due.{Held, Due, Writes, Stops, IsCommandDue, IsDueFor, IsDue}
 use Rattle.lg_run.specs.Lines.{status_of, line_of}
-use Rattle.lg_run.specs.Outcome.{Ends, Follows, WroteDue, WrotePrefix, WroteAgreed, AgreesIfExported, IsLine, SaidLine}
+use Rattle.lg_run.specs.Outcome.{Ends, Follows, WroteDue, WrotePrefix, AgreesIfExported, IsLine, SaidLine}
 use Rattle.lg_run.specs.Words.{Command, Export, command_of, Names}
 use Rattle.lg_run.proofs.OneDue.{same_due}
 

@@ -1,26 +1,21 @@
 -- What is due for what a project file holds.
-use Rattle.std.proofs.Common.{◌≡◌, ℕ, ◌<◌, ◌≤◌, Bool, true, false, List, length, Option, Some, None, Result, Ok, Err, Vec, Global, refl, sym, ap, subst, ◌∙◌, arith, inl, inr}
-use Rattle.std.specs.Prelude.{IfSome, nat_lt, MatchBool}
+use Rattle.std.proofs.Common.{◌≡◌, ℕ, ◌<◌, ◌≤◌, true, false, List, length, Option, Some, None, Result, Ok, Err, Vec, Global, refl, arith}
+use Rattle.std.specs.Prelude.{IfSome, nat_lt}
 use Rattle.std.proofs.lemmas.Bool.{le-ltb, lt-ltb}
 use Rattle.lg_io.specs.Fault.{HasRisen}
 use Rattle.lg_io.specs.Files.{IsReadAnswer}
 use Rattle.lg_io.specs.Files as files
-use Rattle.lg_io.specs.Sink.{Seen, Said}
+use Rattle.lg_io.specs.Sink.{Seen}
 use Rattle.lg_io.specs.declared.fault.FileFault.{FileFault}
 use Rattle.lg_io.specs.declared.fault.FileFault.TheVariants as file_fault
 use Rattle.lg_circ.specs.declared.read.TheConstants.{GREATEST_LENGTH}
-use Rattle.lg_run.specs.declared.status.Status.{Status}
 use Rattle.lg_run.specs.declared.status.Status.TheVariants as status
 use Rattle.lg_run.specs.declared.stop.Refusal.TheVariants.{Missing, TooLong, TooDeep, NotProject, NotBuilt, OfModule, OfRows}
 use Rattle.lg_run.specs.declared.stop.Stop.{Stop}
 use Rattle.lg_run.specs.declared.stop.Stop.TheVariants as stop
-use Rattle.lg_run.specs.Due.{Held, Due, Writes, Stops, IsModuleDue, IsExportDue, IsCommandDue, IsDue}
+use Rattle.lg_run.specs.Due.{Held, Due, Writes, Stops, IsModuleDue, IsExportDue}
 use Rattle.lg_run.specs.Exported.{Makes, Exports, HoldsModule}
-use Rattle.lg_run.specs.Lines.{status_of, line_of}
-use Rattle.lg_run.specs.Outcome.{Ends, Follows, WrotePrefix, IsLine, SaidLine}
 use Rattle.lg_run.specs.Stops.{file_stop}
-use Rattle.lg_run.specs.Words.{Command, Export, command_of}
-use Rattle.lg_run.proofs.OneDue.{of_file}
 
 -- bytes within the limit are judged by what they say
 within_limit : (file bytes : List ℕ) (due : Due) → length bytes ≤ GREATEST_LENGTH → IsModuleDue file bytes due → IsExportDue file (Some bytes) due

@@ -1,4 +1,3 @@
-use Rattle.std.proofs.Common.{sym}
 use Rattle.lg_run.proofs.OneDue.{same_due, some_due}
 use Rattle.lg_run.proofs.law.one_is_due.Goals as goal
 
