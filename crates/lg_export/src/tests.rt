@@ -20,7 +20,7 @@ const CASES: [(&'static [Pin], &'static [Gate], &'static str); 4] = [
         ],
         "module c_main(\n  input wire [3:0] i_A,\n  output wire [3:0] o_Y\n);\n  wire x0_0;\n  wire w0_0;\n  wire x1_0;\n  wire w1_0;\n  wire x2_0;\n  wire w2_0;\n  wire x3_0;\n  wire w3_0;\n  assign x0_0 = i_A[0];\n  assign w0_0 = (~x0_0);\n  assign x1_0 = i_A[1];\n  assign w1_0 = (~x1_0);\n  assign x2_0 = i_A[2];\n  assign w2_0 = (~x2_0);\n  assign x3_0 = i_A[3];\n  assign w3_0 = (~x3_0);\n  assign o_Y = {w3_0, w2_0, w1_0, w0_0};\nendmodule\n",
     ),
-    // Bits of a pin: two in a row, all, the other way round, and with one left out.
+    // Bits of a pin: two in a row, all, the other way round, with one left out, all twice, and some on top of all.
     (
         &[
             (true, "A", &[0, 1, 2, 3]),
@@ -28,9 +28,11 @@ const CASES: [(&'static [Pin], &'static [Gate], &'static str); 4] = [
             (false, "Q", &[0, 1, 2, 3]),
             (false, "R", &[3, 2, 1, 0]),
             (false, "S", &[0, 1, 3]),
+            (false, "T", &[0, 1, 2, 3, 0, 1, 2, 3]),
+            (false, "U", &[0, 1, 2, 3, 1, 2]),
         ],
         &[],
-        "module c_main(\n  input wire [3:0] i_A,\n  output wire [1:0] o_P,\n  output wire [3:0] o_Q,\n  output wire [3:0] o_R,\n  output wire [2:0] o_S\n);\n  assign o_P = i_A[2:1];\n  assign o_Q = i_A;\n  assign o_R = {i_A[0], i_A[1], i_A[2], i_A[3]};\n  assign o_S = {i_A[3], i_A[1:0]};\nendmodule\n",
+        "module c_main(\n  input wire [3:0] i_A,\n  output wire [1:0] o_P,\n  output wire [3:0] o_Q,\n  output wire [3:0] o_R,\n  output wire [2:0] o_S,\n  output wire [7:0] o_T,\n  output wire [5:0] o_U\n);\n  assign o_P = i_A[2:1];\n  assign o_Q = i_A;\n  assign o_R = {i_A[0], i_A[1], i_A[2], i_A[3]};\n  assign o_S = {i_A[3], i_A[1:0]};\n  assign o_T = {i_A, i_A};\n  assign o_U = {i_A[2:1], i_A};\nendmodule\n",
     ),
     // One of two inputs is attached.
     (

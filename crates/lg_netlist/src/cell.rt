@@ -24,6 +24,7 @@ impl Cell {
     /// How many instants after its inputs a cell shows its output: 1 to 255.
     pub fn delay(self) -> u32
         ensures value { result ≡ delay_of self }
+        ensures least { 1 ≤ result }
         ensures most { result ≤ 255 }
     {
         match self {

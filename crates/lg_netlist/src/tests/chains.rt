@@ -13,7 +13,7 @@ const TWO_ON_ONE_NET: &[Gate] = &[
 
 #[test]
 fn parts_drive_before_pins_and_clocks(rt: HostRuntime) -> Result<(), Fail> {
-    let pins: Pins = &[(true, 1), (false, 2), (true, 2)];
+    let pins: Pins = &[(true, &[1]), (false, &[2]), (true, &[0, 2])];
     let netlist = netlist(&rt, rt.alloc(), pins, TWO_ON_ONE_NET, Some(2))?;
     let found = netlist.drivers(rt.alloc(), 2)?;
     let first = Driver::Part {
@@ -26,7 +26,7 @@ fn parts_drive_before_pins_and_clocks(rt: HostRuntime) -> Result<(), Fail> {
         output: 0,
         bit: 0,
     };
-    let third = Driver::Pin { pin: 2, bit: 0 };
+    let third = Driver::Pin { pin: 2, bit: 1 };
     let last = Driver::Clock { clock: 0 };
     assert_eq!(rt; found.as_slice(), [first, second, third, last].as_slice());
     Ok(())
@@ -34,9 +34,10 @@ fn parts_drive_before_pins_and_clocks(rt: HostRuntime) -> Result<(), Fail> {
 
 #[test]
 fn nets_have_first_drivers(rt: HostRuntime) -> Result<(), Fail> {
-    let netlist = netlist(&rt, rt.alloc(), &[(true, 1)], TWO_ON_ONE_NET, None)?;
+    let netlist = netlist(&rt, rt.alloc(), &[(true, &[1, 5])], TWO_ON_ONE_NET, None)?;
     let found = netlist.first_drivers(rt.alloc())?;
-    let input = Some(Driver::Pin { pin: 0, bit: 0 });
+    let low = Some(Driver::Pin { pin: 0, bit: 0 });
+    let high = Some(Driver::Pin { pin: 0, bit: 1 });
     let first = Some(Driver::Part {
         part: 0,
         output: 0,
@@ -47,7 +48,7 @@ fn nets_have_first_drivers(rt: HostRuntime) -> Result<(), Fail> {
         output: 0,
         bit: 0,
     });
-    let expected = [None, input, second, first, None, None, None, None];
+    let expected = [None, low, second, first, None, high, None, None];
     assert_eq!(rt; found.as_slice(), expected.as_slice());
     Ok(())
 }
@@ -60,7 +61,7 @@ const BACKWARDS: &[Gate] = &[
 
 #[test]
 fn outputs_come_after_what_they_read(rt: HostRuntime) -> Result<(), Fail> {
-    let netlist = netlist(&rt, rt.alloc(), &[(true, 0)], BACKWARDS, None)?;
+    let netlist = netlist(&rt, rt.alloc(), &[(true, &[0])], BACKWARDS, None)?;
     let Ok(order) = netlist.order(rt.alloc()) else {
         panic!(rt; "no order");
     };
@@ -95,7 +96,7 @@ const CHAINS: [(&'static str, &'static [Gate], u64); 4] = [
 #[test]
 fn longest_chains(rt: HostRuntime) -> Result<(), Fail> {
     for (case, gates, expected) in CHAINS {
-        let netlist = netlist(&rt, rt.alloc(), &[(true, 0)], gates, None)?;
+        let netlist = netlist(&rt, rt.alloc(), &[(true, &[0])], gates, None)?;
         let Ok(longest) = netlist.longest(rt.alloc()) else {
             panic!(rt; "no longest chain");
         };
@@ -126,9 +127,9 @@ fn a_cycle_has_no_order(rt: HostRuntime) -> Result<(), Fail> {
 
 type Row = (Pins, &'static [Gate], &'static str);
 
-const MANY_DRIVERS: [Row; 4] = [
+const MANY_DRIVERS: [Row; 5] = [
     (
-        &[(true, 0)],
+        &[(true, &[0])],
         &[
             (Cell::Not, &[Some(0)], Some(5)),
             (Cell::Not, &[Some(0)], Some(5)),
@@ -138,7 +139,7 @@ const MANY_DRIVERS: [Row; 4] = [
         "ManyDrivers 3 g2 g3",
     ),
     (
-        &[(true, 0)],
+        &[(true, &[0])],
         &[
             (Cell::Not, &[Some(0)], Some(2)),
             (Cell::Not, &[Some(0)], Some(2)),
@@ -147,9 +148,14 @@ const MANY_DRIVERS: [Row; 4] = [
         "ManyDrivers 2 g0 g1",
     ),
     (
-        &[(true, 0), (true, 1)],
+        &[(true, &[0]), (true, &[1])],
         &[(Cell::Not, &[Some(0)], Some(1))],
         "ManyDrivers 1 g0 p1",
+    ),
+    (
+        &[(true, &[4, 6]), (true, &[5, 6])],
+        &[],
+        "ManyDrivers 6 p0 p1",
     ),
     (
         &[],
@@ -170,10 +176,10 @@ fn nets_with_two_drivers(rt: HostRuntime) -> Result<(), Fail> {
     Ok(())
 }
 
-const UNDRIVEN: [Row; 9] = [
+const UNDRIVEN: [Row; 11] = [
     (&[], &[], "accepted"),
     (
-        &[(true, 0), (false, 2)],
+        &[(true, &[0]), (false, &[2])],
         &[
             (Cell::Not, &[Some(1)], Some(2)),
             (Cell::Not, &[Some(0)], Some(1)),
@@ -183,18 +189,20 @@ const UNDRIVEN: [Row; 9] = [
     (&[], &[(Cell::Not, &[None], None)], "Undriven g0 in"),
     (&[], &[(Cell::And, &[None, None], None)], "Undriven g0 in0"),
     (
-        &[(true, 0)],
+        &[(true, &[0])],
         &[(Cell::Or, &[None, Some(0)], Some(1))],
         "accepted",
     ),
     (
-        &[(true, 0)],
+        &[(true, &[0])],
         &[(Cell::And, &[Some(0), None, Some(1)], Some(2))],
         "Undriven g0 in2",
     ),
-    (&[(true, 0), (false, 4)], &[], "Undriven p1 p"),
+    (&[(true, &[0]), (false, &[4])], &[], "Undriven p1 p"),
+    (&[(true, &[0, 1]), (false, &[1, 0])], &[], "accepted"),
+    (&[(true, &[0, 1]), (false, &[1, 2])], &[], "Undriven p1 p"),
     (
-        &[(false, 4)],
+        &[(false, &[4])],
         &[(Cell::Not, &[Some(3)], None)],
         "Undriven g0 in",
     ),
@@ -220,7 +228,7 @@ fn inputs_without_drivers(rt: HostRuntime) -> Result<(), Fail> {
 const CYCLES: [Row; 3] = [
     (&[], &[(Cell::Not, &[Some(0)], Some(0))], "Cycle g0"),
     (
-        &[(true, 0)],
+        &[(true, &[0])],
         &[
             (Cell::Not, &[Some(0)], Some(3)),
             (Cell::Not, &[Some(2)], Some(1)),

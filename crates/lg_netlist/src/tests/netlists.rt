@@ -3,7 +3,7 @@
 ghost use Rattle.std.specs.Prelude.{◌≡◌, ◌<◌, ◌≤◌, ◌^◌, ℕ, List, length, map, All, IfOk, IsTrue};
 ghost use Rattle.std.specs.List.{IsDistinct};
 ghost use Rattle.std.specs.Str.{bytes_eq};
-ghost use Rattle.lg_netlist.specs.Valid.{is_pin_name, TakesInputs, IsPort, IsFittingPart, IsFittingPin};
+ghost use Rattle.lg_netlist.specs.Valid.{is_pin_name, TakesInputs, AreNets, IsPort, IsFittingPart, IsFittingPin};
 
 use super::super::*;
 use lg_text::Text;
@@ -11,8 +11,8 @@ use sqlite_items::Items;
 use std::alloc::{AllocError, Global};
 use std::process::Abort;
 
-/// Whether each pin is an input, and its net.
-pub type Pins = &'static [(bool, u32)];
+/// Whether each pin is an input, and its nets from bit 0 up.
+pub type Pins = &'static [(bool, &'static [u32])];
 
 /// A gate: its kind, the nets of its inputs, and that of its output.
 pub type Gate = (Cell, &'static [Option<u32>], Option<u32>);
@@ -152,12 +152,20 @@ fn pin(
     ensures name { IfOk result (λ pin. pin.name ≡ name.now) }
 {
     assert!(rt; at < places.len());
-    let (input, net) = places[at];
-    assert!(rt; net < NETS);
+    let (input, bits) = places[at];
+    assert!(rt; 1 <= bits.len() && bits.len() <= 64);
     Ok(PinUse {
         name: Text::copy_of(alloc, name.as_str())?,
         place: Text::from_string(format!(in alloc; "p{at}")?),
         input,
-        bits: Items::from_slice(alloc, &[net])?,
+        bits: nets_of(rt, alloc, bits)?,
     })
+}
+
+fn nets_of(rt: &impl Abort, alloc: Global, bits: &[u32]) -> Result<Items<u32>, AllocError>
+    ensures same { IfOk result (λ nets. length nets ≡ length bits.now) }
+    ensures nets { IfOk result (AreNets 8) }
+{
+    assert!(rt; bits.iter().all(|net| *net < NETS));
+    Items::from_slice(alloc, bits)
 }
