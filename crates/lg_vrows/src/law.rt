@@ -10,7 +10,7 @@ ghost use Rattle.lg_vrows.specs.declared.fault.ModuleFault.TheVariants.{Memory a
 ghost use Rattle.lg_vrows.specs.declared.fault.RowsFault.{RowsFault as NoRows};
 ghost use Rattle.lg_vrows.specs.declared.fault.RowsFault.TheVariants.{Memory as NoMemoryLeft};
 
-/// But for want of memory, bytes have one answer as a module: one valid module, or one fault.
+/// But for want of memory, bytes have at most one answer as a module: one valid module, or one fault.
 pub fn modules_have_one_answer()
     ensures one { (bytes : List ℕ) (m other : Tree) → IsValidText bytes m → IsValidText bytes other → m ≡ other }
     ensures apart { (bytes : List ℕ) (m : Tree) (fault : NoModule) → fault ≢ NoMemory →
@@ -19,7 +19,7 @@ pub fn modules_have_one_answer()
         IsModuleFault bytes fault → IsModuleFault bytes other → fault ≡ other }
 {}
 
-/// But for want of memory, bytes have one answer as rows for a valid module: one text, or one fault.
+/// But for want of memory, bytes have at most one answer as rows for a valid module: one text, or one fault.
 pub fn rows_have_one_answer()
     ensures one { (m : Tree) → IsValid m → (bytes text other : List ℕ) →
         IsRowsText m bytes text → IsRowsText m bytes other → text ≡ other }

@@ -6,12 +6,12 @@ mod inputs;
 mod law;
 mod pins;
 mod reading;
+mod rows;
 #[cfg(test)]
 mod tests;
 mod text;
-mod vrun;
 
 pub use fault::{ModuleFault, RowsFault};
 pub use law::{defined_rows_have_outputs, modules_have_one_answer, rows_have_one_answer};
 pub use reading::valid_module;
-pub use vrun::rows_text;
+pub use rows::rows_text;

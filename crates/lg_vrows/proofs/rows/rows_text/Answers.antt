@@ -23,7 +23,7 @@ use Rattle.lg_vrows.proofs.BoundLemmas.{are_places}
 use Rattle.lg_vrows.proofs.FaultLemmas.{unbound_fault}
 use Rattle.lg_vrows.proofs.InputLemmas.{rows_fit}
 use Rattle.lg_vrows.proofs.PortLemmas.{lines_same, inputs_marked, outputs_printed, pins_differ}
-use Rattle.lg_vrows.proofs.vrun.rows_text.Goals as goal
+use Rattle.lg_vrows.proofs.rows.rows_text.Goals as goal
 
 -- the pins are those of the module's inputs
 pins_are : (m : Module) (pins shown : List PinShape) (ports : List PortLine) → shown ≡ pins → pins ≡ map input_pin (lines ports) → ports ≡ port_lines is_input m → shown ≡ input_pins m
