@@ -16,6 +16,7 @@ head -c 16777217 /dev/zero > "$folder/long.rows"
 echo 'module m' > "$folder/no_end.v"
 { echo 'A B'; seq 65536 | awk '{ print $1 % 2, int($1 / 2) % 2 }'; } > "$folder/most.rows"
 { cat "$folder/most.rows"; echo '0 0'; } > "$folder/more.rows"
+printf 'A B\r\n1 0\r\n\r\n1 1' > "$folder/returns.rows"
 cat > "$folder/and.v" <<'END'
 module c_main(
   input wire i_A,
@@ -66,13 +67,15 @@ printf '%s\n' 'row S Cout' '1 0 0' '2 1 0' '3 1 0' '4 0 1' '5 1 0' '6 0 1' '7 0 
 expect 0 '' out vrun and.v most.rows
 { printf 'row\tY\n'; seq 65536 | awk '{ print $1 "\t" ($1 % 4 == 3) }'; } | cmp -s - out ||
   { echo "checks/program.sh: other outputs on 65536 rows"; failed=1; }
+expect 0 '' out vrun and.v returns.rows
+printf 'row\tY\n1\t0\n2\t1\n' | cmp -s - out || { echo "checks/program.sh: other outputs on lines that end in CR LF"; failed=1; }
 expect 2 "$usage" out vrun and.v
 expect 2 "$usage" out vrun and.v most.rows most.rows
 expect 2 "$usage" out vrun and.v -
 expect 3 'lg: input: none.v: Missing' out vrun none.v none.rows
 expect 3 'lg: input: none.rows: Missing' out vrun and.v none.rows
 expect 3 'lg: input: no_end.v: NotSubset' out vrun no_end.v none.rows
-expect 3 'lg: input: long.v: TooLong' out vrun long.v most.rows
+expect 3 'lg: input: long.v: TooLong' out vrun long.v none.rows
 expect 3 'lg: input: long.rows: TooLong' out vrun and.v long.rows
 expect 3 'lg: input: more.rows: TooManyRows' out vrun and.v more.rows
 expect 5 'lg: read fault: folder.circ' out vrun folder.circ most.rows

@@ -11,40 +11,37 @@ use Rattle.lg_run.specs.declared.stop.Stop.TheVariants as stop
 use Rattle.lg_run.specs.Answered.{StopsRightly, FailsRightly, AgreesFor}
 use Rattle.lg_run.specs.Due.{Held, Due, Writes, Stops, IsCommandDue, IsDueFor, IsDue}
 use Rattle.lg_run.specs.Lines.{status_of, line_of}
-use Rattle.lg_run.specs.Outcome.{Ends, Follows, WroteDue, WrotePrefix, AgreesIfExported, IsLine, SaidLine}
-use Rattle.lg_run.specs.Words.{Command, Export, command_of, Names}
+use Rattle.lg_run.specs.Outcome.{Ends, Follows, WroteDue, WrotePrefix, AgreesIfExported, IsDueLine, IsLine, SaidLine}
+use Rattle.lg_run.specs.Words.{Command, Export, command_of}
 use Rattle.lg_run.proofs.OneDue.{same_due}
 
 -- what is due for the command is due for its words
-due_for : (words : List (List ℕ)) (c : Command) (held : Held) (due : Due) → command_of words ≡ Some c → IsCommandDue c held due → IsDue words held due
-due_for words c held due asked h = subst (λ (o : Option Command). IsDueFor o held due) (sym asked) h
+due_for : (words : List (List ℕ)) (c : Command) (told : Option Held) (due : Due) → command_of words ≡ Some c → IsCommandDue c told due → IsDue words told due
+due_for words c told due asked h = subst (λ (o : Option Command). IsDueFor o told due) (sym asked) h
 
 -- the text that is due and what belongs to it
-abbrev pub IsTold : Option Held → Command → List ℕ → Type 0
-IsTold told c text = IfSome told (λ held. IsCommandDue c held (Writes status.Done text) × AgreesFor c held text)
+abbrev pub IsAsked : Option Held → Command → List ℕ → Type 0
+IsAsked told c text = IsCommandDue c told (Writes status.Done text) × AgreesFor c told text
 
-pub done_written : (told : Option Held) (words : List (List ℕ)) (c : Command) (text : List ℕ) (s : Status) (before after : Seen) → command_of words ≡ Some c → IsTold told c text → Ends s before after text → s ≡ status.Done
-    → IfSome told (λ held. WroteDue words held s before after)
-done_written None words c text s before after asked h ends e = tt
-done_written (Some held) words c text s before after asked h ends e =
+pub done_written : (told : Option Held) (words : List (List ℕ)) (c : Command) (text : List ℕ) (s : Status) (before after : Seen) → command_of words ≡ Some c → IsAsked told c text → Ends s before after text → s ≡ status.Done
+    → WroteDue words told s before after
+done_written told words c text s before after asked h ends e =
     let took : Took before after text = subst (λ (x : Status). Ends x before after text) e ends in
-    subst (λ (x : Status). WroteDue words held x before after) (sym e) (record { text = text; due = due_for words c held (Writes status.Done text) asked h.0; took = took })
+    subst (λ (x : Status). WroteDue words told x before after) (sym e) (record { text = text; due = due_for words c told (Writes status.Done text) asked h.0; took = took })
 
-pub agrees_written : (told : Option Held) (words : List (List ℕ)) (c : Command) (text : List ℕ) (s : Status) (before after : Seen) → command_of words ≡ Some c → IsTold told c text → Ends s before after text → s ≡ status.Done
-    → IfSome told (λ held. AgreesIfExported words held before after)
-agrees_written None words c text s before after asked h ends e = tt
-agrees_written (Some held) words c text s before after asked h ends e = λ file exported.
+pub agrees_written : (told : Option Held) (words : List (List ℕ)) (c : Command) (text : List ℕ) (s : Status) (before after : Seen) → command_of words ≡ Some c → IsAsked told c text → Ends s before after text → s ≡ status.Done
+    → AgreesIfExported words told before after
+agrees_written told words c text s before after asked h ends e = λ file exported.
     let took : Took before after text = subst (λ (x : Status). Ends x before after text) e ends in
     let same : c ≡ Export file = same_Some c (Export file) (sym asked ∙ exported) in
-    let a = subst (λ (c : Command). AgreesFor c held text) same h.1 in
-    record { bytes = a.0; text = text; holds = a.1; agreed = a.2; took = took }
+    let a = subst (λ (c : Command). AgreesFor c told text) same h.1 in
+    record { bytes = a.0; text = text; finds = a.1; fits = a.2; agreed = a.3; took = took }
 
-pub prefix_written : (told : Option Held) (words : List (List ℕ)) (c : Command) (text : List ℕ) (s : Status) (before after : Seen) → command_of words ≡ Some c → IsTold told c text → Ends s before after text → s ≡ status.WriteFault
-    → IfSome told (λ held. WrotePrefix words held before after)
-prefix_written None words c text s before after asked h ends e = tt
-prefix_written (Some held) words c text s before after asked h ends e =
+pub prefix_written : (told : Option Held) (words : List (List ℕ)) (c : Command) (text : List ℕ) (s : Status) (before after : Seen) → command_of words ≡ Some c → IsAsked told c text → Ends s before after text → s ≡ status.WriteFault
+    → WrotePrefix words told before after
+prefix_written told words c text s before after asked h ends e =
     let failed : Ends status.WriteFault before after text = subst (λ (x : Status). Ends x before after text) e ends in
-    record { status = status.Done; text = text; due = due_for words c held (Writes status.Done text) asked h.0; took = failed.0 }
+    record { status = status.Done; text = text; due = due_for words c told (Writes status.Done text) asked h.0; took = failed.0 }
 
 follows_written : (text : List ℕ) (s : Status) (files_before files_after : files.Seen) (before after : Seen) → Ends s before after text → Follows (Writes status.Done text) s files_before files_after before after
 follows_written text status.Done files_before files_after before after ends = inl refl
@@ -56,30 +53,30 @@ follows_written text status.ReadFault files_before files_after before after ends
 follows_written text status.Memory files_before files_after before after ends = absurd ends
 
 -- after a text was written, or a part of it, that text is what is due
-pub complete_written : (told : Option Held) (words : List (List ℕ)) (c : Command) (text : List ℕ) (s : Status) (files_before files_after : files.Seen) (before after : Seen) → command_of words ≡ Some c → IsTold told c text → Ends s before after text
-    → IfSome told (λ held. (due : Due) → IsDue words held due → Follows due s files_before files_after before after)
+pub complete_written : (told : Option Held) (words : List (List ℕ)) (c : Command) (text : List ℕ) (s : Status) (files_before files_after : files.Seen) (before after : Seen) → command_of words ≡ Some c → IsAsked told c text → Ends s before after text
+    → IfSome told (λ held. (due : Due) → IsDue words (Some held) due → Follows due s files_before files_after before after)
 complete_written None words c text s files_before files_after before after asked h ends = tt
 complete_written (Some held) words c text s files_before files_after before after asked h ends = λ due is_due.
     subst (λ (due : Due). Follows due s files_before files_after before after)
-    (same_due words held (Writes status.Done text) due (due_for words c held (Writes status.Done text) asked h.0) is_due) (follows_written text s files_before files_after before after ends)
+    (same_due words held (Writes status.Done text) due (due_for words c (Some held) (Writes status.Done text) asked h.0) is_due) (follows_written text s files_before files_after before after ends)
 
 abbrev pub StopsFor : files.Seen → files.Seen → Command → List ℕ → Stop → Type 0
-StopsFor before after c about why = StopsRightly before after (λ held why. IsCommandDue c held (Stops why about)) why
+StopsFor before after c about why = StopsRightly before after (λ why. IsCommandDue c before.held (Stops why about)) why
 
 -- after a stop the due one, or memory ran out, or a count rose
 pub complete_stopped : (words : List (List ℕ)) (c : Command) (about : List ℕ) (files_before files_after : files.Seen) (before after : Seen) (why : Stop) (s : Status) → command_of words ≡ Some c → s ≡ status_of why
-    → StopsFor files_before files_after c about why → IfSome files_before.held (λ held. (due : Due) → IsDue words held due → Follows due s files_before files_after before after)
+    → StopsFor files_before files_after c about why → IfSome files_before.held (λ held. (due : Due) → IsDue words (Some held) due → Follows due s files_before files_after before after)
 complete_stopped words c about files_before files_after before after why s asked e stops = of files_before.held why e stops
   where
-    due_stop : (held : Held) (why : Stop) (due : Due) → IsCommandDue c held (Stops why about) → IsDue words held due → Follows due (status_of why) files_before files_after before after
+    due_stop : (held : Held) (why : Stop) (due : Due) → IsCommandDue c (Some held) (Stops why about) → IsDue words (Some held) due → Follows due (status_of why) files_before files_after before after
     due_stop held why due w k =
-        subst (λ (due : Due). Follows due (status_of why) files_before files_after before after) (same_due words held (Stops why about) due (due_for words c held (Stops why about) asked w) k) (inl refl)
+        subst (λ (due : Due). Follows due (status_of why) files_before files_after before after) (same_due words held (Stops why about) due (due_for words c (Some held) (Stops why about) asked w) k) (inl refl)
 
     of : (told : Option Held) (why : Stop) → s ≡ status_of why → StopsFor (record { held = told; faults = files_before.faults }) files_after c about why
-        → IfSome told (λ held. (due : Due) → IsDue words held due → Follows due s files_before files_after before after)
+        → IfSome told (λ held. (due : Due) → IsDue words (Some held) due → Follows due s files_before files_after before after)
     of None why e w = tt
     of (Some held) (stop.Input refusal) e w = λ due k. rw e (due_stop held (stop.Input refusal) due w k)
-    of (Some held) (stop.NotAccepted reason) e w = λ due k. rw e (due_stop held (stop.NotAccepted reason) due w.1 k)
+    of (Some held) (stop.NotAccepted reason) e w = λ due k. rw e (due_stop held (stop.NotAccepted reason) due w k)
     of (Some held) stop.ReadFault e w = λ due k. risen due
       where
         risen : (due : Due) → Follows due s files_before files_after before after
@@ -94,19 +91,18 @@ complete_stopped words c about files_before files_after before after why s asked
     of (Some held) stop.WriteFault e w = absurd w
 
 -- the line of a stop is that of the stop that is due
-pub said_stopped : (words : List (List ℕ)) (c : Command) (about : List ℕ) (files_before files_after : files.Seen) (before after : Seen) (why : Stop) (s : Status) → command_of words ≡ Some c → Names c about → s ≡ status_of why
-    → StopsFor files_before files_after c about why → FailsRightly files_before c about why → Said before after (line_of why about) → SaidLine words files_before.held s before after
-said_stopped words c about files_before files_after before after why s asked named e stops fails said =
-    record { line = line_of why about; is_line = rw e (of files_before.held why stops fails); said = said }
+pub said_stopped : (words : List (List ℕ)) (c : Command) (about : List ℕ) (files_before files_after : files.Seen) (before after : Seen) (why : Stop) (s : Status) → command_of words ≡ Some c → s ≡ status_of why
+    → StopsFor files_before files_after c about why → FailsRightly files_before.held c about why → Said before after (line_of why about) → SaidLine words files_before.held s before after
+said_stopped words c about files_before files_after before after why s asked e stops fails said =
+    record { line = line_of why about; is_line = rw e (of why stops fails); said = said }
   where
-    of : (told : Option Held) (why : Stop) → StopsFor (record { held = told; faults = files_before.faults }) files_after c about why → FailsRightly (record { held = told; faults = files_before.faults }) c about why
-        → IsLine words told (status_of why) (line_of why about)
-    of (Some held) (stop.Input refusal) w fails = (stop.Input refusal, about, due_for words c held (Stops (stop.Input refusal) about) asked w, refl, refl)
-    of None (stop.Input refusal) w fails = (about, refusal, (c, asked, named), refl)
-    of (Some held) (stop.NotAccepted reason) w fails = (stop.NotAccepted reason, about, due_for words c held (Stops (stop.NotAccepted reason) about) asked w.1, refl, refl)
-    of None (stop.NotAccepted reason) w fails = (about, reason, w.0, (c, asked, named), refl)
-    of (Some held) stop.ReadFault w fails = (about, c, asked, fails, refl)
-    of None stop.ReadFault w fails = (about, (c, asked, named), refl)
-    of told stop.Memory w fails = refl
-    of told stop.Usage w fails = absurd w
-    of told stop.WriteFault w fails = absurd w
+    due_line : (why : Stop) → IsCommandDue c files_before.held (Stops why about) → IsDueLine words files_before.held (status_of why) (line_of why about)
+    due_line why due = record { why = why; file = about; due = due_for words c files_before.held (Stops why about) asked due; of_status = refl; of_stop = refl }
+
+    of : (why : Stop) → StopsFor files_before files_after c about why → FailsRightly files_before.held c about why → IsLine words files_before.held (status_of why) (line_of why about)
+    of (stop.Input refusal) w fails = due_line (stop.Input refusal) w
+    of (stop.NotAccepted reason) w fails = due_line (stop.NotAccepted reason) w
+    of stop.ReadFault w fails = record { command = c; file = about; asked = asked; reads = fails; of_stop = refl }
+    of stop.Memory w fails = refl
+    of stop.Usage w fails = absurd w
+    of stop.WriteFault w fails = absurd w

@@ -1,4 +1,4 @@
--- What is due for what a project file holds.
+-- What is due for what a read of a project file finds.
 use Rattle.std.proofs.Common.{◌≡◌, ℕ, ◌<◌, ◌≤◌, true, false, List, length, Option, Some, None, Result, Ok, Err, Vec, Global, refl, arith}
 use Rattle.std.specs.Prelude.{IfSome, nat_lt}
 use Rattle.std.proofs.lemmas.Bool.{le-ltb, lt-ltb}
@@ -13,9 +13,12 @@ use Rattle.lg_run.specs.declared.status.Status.TheVariants as status
 use Rattle.lg_run.specs.declared.stop.Refusal.TheVariants.{Missing, TooLong, TooDeep, NotProject, NotBuilt, OfModule, OfRows}
 use Rattle.lg_run.specs.declared.stop.Stop.{Stop}
 use Rattle.lg_run.specs.declared.stop.Stop.TheVariants as stop
-use Rattle.lg_run.specs.Due.{Held, Due, Writes, Stops, IsModuleDue, IsExportDue}
-use Rattle.lg_run.specs.Exported.{Makes, Exports, HoldsModule}
+use Rattle.lg_run.specs.Answered.{AgreesFor}
+use Rattle.lg_run.specs.Due.{Held, Finds, Due, Writes, Stops, IsNoModule, IsModuleDue, IsExportDue, IsCommandDue}
+use Rattle.lg_run.specs.Exported.{Makes, Exports}
 use Rattle.lg_run.specs.Stops.{file_stop}
+use Rattle.lg_run.specs.Words.{Export}
+use Rattle.lg_run.proofs.Found.{refused}
 
 -- bytes within the limit are judged by what they say
 within_limit : (file bytes : List ℕ) (due : Due) → length bytes ≤ GREATEST_LENGTH → IsModuleDue file bytes due → IsExportDue file (Some bytes) due
@@ -29,47 +32,43 @@ past_limit file bytes long =
     let high : nat_lt GREATEST_LENGTH (length bytes) ≡ true = lt-ltb GREATEST_LENGTH (length bytes) long in
     rw high refl
 
--- the text or the stop of the bytes that a file holds is what is due for the file
-pub Exports-from_makes : (before after : files.Seen) (file bytes : List ℕ) (r : Result (Vec ℕ Global) Stop) → Makes bytes r
-    → IfSome before.held (λ held. (held file ≡ Some bytes) × (length bytes ≤ GREATEST_LENGTH)) → Exports before after file r
-Exports-from_makes before after file bytes r made holds = by before.held r made holds
+-- the text or the stop of the bytes that a read finds is what is due for the file
+pub Exports-from_makes : (before after : files.Seen) (file bytes : List ℕ) (r : Result (Vec ℕ Global) Stop) → Makes bytes r → Finds before.held file (Some bytes) → Exports before after file r
+Exports-from_makes before after file bytes r made finds = by r made
   where
-    by : (told : Option Held) (r : Result (Vec ℕ Global) Stop) → Makes bytes r → IfSome told (λ held. (held file ≡ Some bytes) × (length bytes ≤ GREATEST_LENGTH))
-        → Exports (record { held = told; faults = before.faults }) after file r
-    by None (Ok text) m h = tt
-    by (Some held) (Ok text) m h = (bytes, h.0, m.0, m.1)
-    by told (Err (stop.Input Missing)) m h = absurd m
-    by told (Err (stop.Input (OfModule fault))) m h = absurd m
-    by told (Err (stop.Input (OfRows fault))) m h = absurd m
-    by None (Err (stop.Input TooLong)) m h = tt
-    by (Some held) (Err (stop.Input TooLong)) m h = absurd (omega arith)
-    by None (Err (stop.Input TooDeep)) m h = tt
-    by (Some held) (Err (stop.Input TooDeep)) m h = rw h.0 (within_limit file bytes (Stops (stop.Input TooDeep) file) m.0 (m.1, refl))
-    by None (Err (stop.Input NotProject)) m h = tt
-    by (Some held) (Err (stop.Input NotProject)) m h = rw h.0 (within_limit file bytes (Stops (stop.Input NotProject) file) m.0 (m.1, refl))
-    by None (Err (stop.Input NotBuilt)) m h = tt
-    by (Some held) (Err (stop.Input NotBuilt)) m h = rw h.0 (within_limit file bytes (Stops (stop.Input NotBuilt) file) m.0 (m.1, refl))
-    by None (Err (stop.NotAccepted reason)) m h = (m.1, tt)
-    by (Some held) (Err (stop.NotAccepted reason)) m h = (m.1, rw h.0 (within_limit file bytes (Stops (stop.NotAccepted reason) file) m.0 (m.2, refl)))
-    by told (Err stop.Memory) m h = tt
-    by told (Err stop.Usage) m h = absurd m
-    by told (Err stop.ReadFault) m h = absurd m
-    by told (Err stop.WriteFault) m h = absurd m
+    stops : (why : Stop) → IsExportDue file (Some bytes) (Stops why file) → IsCommandDue (Export file) before.held (Stops why file)
+    stops why due = (Some bytes, finds, due)
+
+    no_module : (why : Stop) → (length bytes ≤ GREATEST_LENGTH) × IsNoModule bytes why → IsCommandDue (Export file) before.held (Stops why file)
+    no_module why m = stops why (within_limit file bytes (Stops why file) m.0 (m.1, refl))
+
+    by : (r : Result (Vec ℕ Global) Stop) → Makes bytes r → Exports before after file r
+    by (Ok text) m = (bytes, finds, m.0, m.1)
+    by (Err (stop.Input TooLong)) m = stops (stop.Input TooLong) (past_limit file bytes m)
+    by (Err (stop.Input Missing)) m = absurd m.1
+    by (Err (stop.Input TooDeep)) m = no_module (stop.Input TooDeep) m
+    by (Err (stop.Input NotProject)) m = no_module (stop.Input NotProject) m
+    by (Err (stop.Input NotBuilt)) m = no_module (stop.Input NotBuilt) m
+    by (Err (stop.Input (OfModule fault))) m = absurd m.1
+    by (Err (stop.Input (OfRows fault))) m = absurd m.1
+    by (Err (stop.NotAccepted reason)) m = no_module (stop.NotAccepted reason) m
+    by (Err stop.Memory) m = tt
+    by (Err stop.Usage) m = absurd m.1
+    by (Err stop.ReadFault) m = absurd m.1
+    by (Err stop.WriteFault) m = absurd m.1
 
 -- a read that was refused is the stop that is due
 pub Exports-from_fault : (before after : files.Seen) (file : List ℕ) (fault : FileFault) → IfSome before.held (λ held. IsReadAnswer (held file) GREATEST_LENGTH (Err fault))
     → (fault ≡ file_fault.Failed → HasRisen before.faults after.faults) → Exports before after file (Err (file_stop fault))
-Exports-from_fault before after file fault answer rose = by before.held fault answer rose
+Exports-from_fault before after file fault answer rose = by fault (refused before.held file GREATEST_LENGTH fault answer) rose
   where
-    by : (told : Option Held) (fault : FileFault) → IfSome told (λ held. IsReadAnswer (held file) GREATEST_LENGTH (Err fault)) → (fault ≡ file_fault.Failed → HasRisen before.faults after.faults)
-        → Exports (record { held = told; faults = before.faults }) after file (Err (file_stop fault))
-    by None file_fault.Missing a r = tt
-    by (Some held) file_fault.Missing a r = rw a refl
-    by None file_fault.TooLong a r = tt
-    by (Some held) file_fault.TooLong a r = rw a.1 (past_limit file a.0 a.2)
-    by told file_fault.Failed a r = r refl
-    by told file_fault.Memory a r = tt
+    by : (fault : FileFault) → (found : Option (List ℕ)) × Finds before.held file found × IsReadAnswer found GREATEST_LENGTH (Err fault) → (fault ≡ file_fault.Failed → HasRisen before.faults after.faults)
+        → Exports before after file (Err (file_stop fault))
+    by file_fault.Missing (found, finds, is) r = (found, finds, rw is refl)
+    by file_fault.TooLong (found, finds, is) r = (found, finds, rw is.1 (past_limit file is.0 is.2))
+    by file_fault.Failed f r = r refl
+    by file_fault.Memory f r = tt
 
--- the text of a module that is held is due
-pub text_is_due : (held : Held) (file text : List ℕ) → HoldsModule (Some held) file text → IsExportDue file (held file) (Writes status.Done text)
-text_is_due held file text (bytes, e, fits, t) = rw e (within_limit file bytes (Writes status.Done text) fits (refl, t.made))
+-- the text of a module that is found is due
+pub text_is_due : (told : Option Held) (file text : List ℕ) → AgreesFor (Export file) told text → IsCommandDue (Export file) told (Writes status.Done text)
+text_is_due told file text (bytes, finds, fits, t) = (Some bytes, finds, within_limit file bytes (Writes status.Done text) fits (refl, t.made))

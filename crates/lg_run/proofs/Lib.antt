@@ -1,3 +1,4 @@
+pub mod Found
 pub mod Dues
 pub mod Making
 pub mod OneSheetLemmas

@@ -37,9 +37,9 @@ Makes-not_accepted bytes project netlist fault within says built why = by fault 
   where
     by : (fault : NotAccepted) → (fault ≡ not_accepted.Memory) ⊎ IsRefused netlist fault → Makes bytes (Err (not_accepted_stop fault))
     by (not_accepted.ManyDrivers net first second) (inl e) = absurd cc
-    by (not_accepted.ManyDrivers net first second) (inr r) = (within, (λ e. absurd cc), record { project = project; netlist = netlist; says = says; built = built; refused = r })
+    by (not_accepted.ManyDrivers net first second) (inr r) = (within, record { project = project; netlist = netlist; says = says; built = built; refused = r })
     by (not_accepted.Undriven part port) (inl e) = absurd cc
-    by (not_accepted.Undriven part port) (inr r) = (within, (λ e. absurd cc), record { project = project; netlist = netlist; says = says; built = built; refused = r })
+    by (not_accepted.Undriven part port) (inr r) = (within, record { project = project; netlist = netlist; says = says; built = built; refused = r })
     by (not_accepted.Cycle part) (inl e) = absurd cc
-    by (not_accepted.Cycle part) (inr r) = (within, (λ e. absurd cc), record { project = project; netlist = netlist; says = says; built = built; refused = r })
+    by (not_accepted.Cycle part) (inr r) = (within, record { project = project; netlist = netlist; says = says; built = built; refused = r })
     by not_accepted.Memory why = tt

@@ -33,7 +33,7 @@ use Rattle.lg_run.specs.declared.stop.Refusal.TheVariants.{Missing, TooLong, Too
 use Rattle.lg_run.specs.declared.stop.Stop.{Stop}
 use Rattle.lg_run.specs.declared.stop.Stop.TheVariants.{Usage, Input, NotAccepted, ReadFault, WriteFault, Memory}
 use Rattle.lg_run.specs.declared.vrun.TheConstants.{MODULE_LENGTH, ROWS_LENGTH}
-use Rattle.lg_run.specs.Due.{Held, Due, Writes, Stops, IsModuleText, IsRefusedText, IsNoModule, IsModuleDue, IsExportDue, IsOutputsDue, IsRowsDue, IsValidDue, OnModule, NoModule, IsVrunDue, IsCommandDue, IsDueFor, IsDue}
+use Rattle.lg_run.specs.Due.{Held, Due, Writes, Stops, IsExportText, IsRefusedText, IsNoModule, IsModuleDue, IsExportDue, IsOutputsDue, IsRowsDue, IsValidDue, OnModule, NoModule, IsVrunDue, IsCommandDue, IsDueFor, IsDue}
 use Rattle.lg_run.specs.OneSheet.{IsBuilt, opens_with}
 use Rattle.lg_run.specs.Words.{Command, Export, Vrun, command_of}
 use Rattle.lg_run.proofs.OneSheetLemmas.{head_is, one_built}
@@ -68,7 +68,7 @@ by_sheets project (sheet ∷ other ∷ more) e few = inr (λ n b. let f : sheet 
 
 -- bytes have the text of a module, or there is a stop that says why not
 abbrev TextOrNot : List ℕ → Type 0
-TextOrNot bytes = ((text : List ℕ) × IsModuleText bytes text) ⊎ ((stop : Stop) × IsNoModule bytes stop)
+TextOrNot bytes = ((text : List ℕ) × IsExportText bytes text) ⊎ ((stop : Stop) × IsNoModule bytes stop)
 
 of_netlist : (bytes : List ℕ) (project : Project) (n : Netlist) → SaysProject bytes project → IsBuilt project n → IsAccepted n ⊎ ((fault : Refused) × IsRefused n fault) → TextOrNot bytes
 of_netlist bytes project n says built (inl accepted) =
@@ -102,7 +102,7 @@ same_netlist bytes p q n m says_p says_q b c =
     m (subst (λ (r : Project). IsBuilt r m) same c)
 
 -- the text of the bytes' module is the only one
-one_printed : (bytes text text' : List ℕ) → IsModuleText bytes text → IsModuleText bytes text' → text' ≡ text
+one_printed : (bytes text text' : List ℕ) → IsExportText bytes text → IsExportText bytes text' → text' ≡ text
 one_printed bytes text text' t t' =
     let netlist : t'.netlist ≡ t.netlist = same_netlist bytes t.project t'.project t.netlist t'.netlist t.says t'.says t.built t'.built in
     t'.printed ∙ (ap (λ (n : Netlist). module_text (module_of n)) netlist ∙ sym t.printed)
@@ -122,7 +122,7 @@ abbrev pub OneOf : (Due → Type 0) → Type 0
 OneOf P = (due : Due) × P due × ((other : Due) → P other → other ≡ due)
 
 -- where there is a reason for none, there is no text
-pub no_text : (bytes : List ℕ) (why : Stop) (text : List ℕ) → IsNoModule bytes why → IsModuleText bytes text → ⊥
+pub no_text : (bytes : List ℕ) (why : Stop) (text : List ℕ) → IsNoModule bytes why → IsExportText bytes text → ⊥
 no_text bytes (Input TooDeep) text h t = deep_says_none bytes t.project h t.says
 no_text bytes (Input NotProject) text h t = h.says_none t.project t.says
 no_text bytes (Input NotBuilt) text h t = built_once bytes t.project h.0 t.netlist t.says h.1 t.built h.2
@@ -231,23 +231,27 @@ same_vrun of_module of_rows (Some bytes) rows a b h k = by (nat_lt MODULE_LENGTH
 
 -- ---- all commands
 
-same_command : (c : Command) (held : Held) (a b : Due) → IsCommandDue c held a → IsCommandDue c held b → a ≡ b
-same_command (Export file) held a b h k = let one = of_file file (held file) in one.2 a h ∙ sym (one.2 b k)
-same_command (Vrun of_module of_rows) held a b h k = same_vrun of_module of_rows (held of_module) (held of_rows) a b h k
+same_command : (c : Command) (held : Held) (a b : Due) → IsCommandDue c (Some held) a → IsCommandDue c (Some held) b → a ≡ b
+same_command (Export file) held a b (found, finds, h) (other, finds_other, k) =
+    let one = of_file file found in
+    one.2 a h ∙ sym (one.2 b (subst (λ (o : Option (List ℕ)). IsExportDue file o b) (sym finds_other ∙ finds) k))
+same_command (Vrun of_module of_rows) held a b (found, rows, finds, finds_rows, h) (other, others, finds_other, finds_others, k) =
+    same_vrun of_module of_rows found rows a b h
+    (subst (λ (o : Option (List ℕ)). IsVrunDue of_module of_rows o rows b) (sym finds_other ∙ finds) (subst (λ (o : Option (List ℕ)). IsVrunDue of_module of_rows other o b) (sym finds_others ∙ finds_rows) k))
 
-same_for : (asked : Option Command) (held : Held) (a b : Due) → IsDueFor asked held a → IsDueFor asked held b → a ≡ b
+same_for : (asked : Option Command) (held : Held) (a b : Due) → IsDueFor asked (Some held) a → IsDueFor asked (Some held) b → a ≡ b
 same_for None held a b h k = h ∙ sym k
 same_for (Some c) held a b h k = same_command c held a b h k
 
 -- at most one thing is due
-pub same_due : (words : List (List ℕ)) (held : Held) (a b : Due) → IsDue words held a → IsDue words held b → a ≡ b
+pub same_due : (words : List (List ℕ)) (held : Held) (a b : Due) → IsDue words (Some held) a → IsDue words (Some held) b → a ≡ b
 same_due words held a b h k = same_for (command_of words) held a b h k
 
 -- and something is, but for `vrun`
-pub some_due : (words : List (List ℕ)) (held : Held) → ((of_module of_rows : List ℕ) → command_of words ≡ Some (Vrun of_module of_rows) → ⊥) → (due : Due) × IsDue words held due
+pub some_due : (words : List (List ℕ)) (held : Held) → ((of_module of_rows : List ℕ) → command_of words ≡ Some (Vrun of_module of_rows) → ⊥) → (due : Due) × IsDue words (Some held) due
 some_due words held other = by (command_of words) other
   where
-    by : (asked : Option Command) → ((of_module of_rows : List ℕ) → asked ≡ Some (Vrun of_module of_rows) → ⊥) → (due : Due) × IsDueFor asked held due
+    by : (asked : Option Command) → ((of_module of_rows : List ℕ) → asked ≡ Some (Vrun of_module of_rows) → ⊥) → (due : Due) × IsDueFor asked (Some held) due
     by None other = (Stops Usage [], refl)
-    by (Some (Export file)) other = let one = of_file file (held file) in (one.0, one.1)
+    by (Some (Export file)) other = let one = of_file file (held file) in (one.0, (held file, refl, one.1))
     by (Some (Vrun of_module of_rows)) other = absurd (other of_module of_rows refl)

@@ -1,7 +1,8 @@
 -- What an exported module prints on rows is that of the static rows.
-use Rattle.std.proofs.Common.{◌≡◌, ℕ, ◌≤◌, true, List, [], ◌∷◌, length, refl, ap, subst, ◌∙◌}
-use Rattle.std.specs.Prelude.{All}
+use Rattle.std.proofs.Common.{◌≡◌, ℕ, ◌≤◌, Bool, true, false, List, [], ◌∷◌, length, Option, Some, refl, sym, ap, subst, ◌∙◌}
+use Rattle.std.specs.Prelude.{nat_lt, MatchBool, All}
 use Rattle.std.specs.List.{AllByRecursion, zip}
+use Rattle.std.proofs.lemmas.Bool.{ltb-false}
 use Rattle.std.proofs.lemmas.List.Elements.{All-head, All-tail}
 use Rattle.lg_circ.specs.declared.project.Project.{Project}
 use Rattle.lg_export.specs.Agreement.{Rows, numbers_of}
@@ -25,9 +26,14 @@ use Rattle.lg_vrows.proofs.OneModule.{one_valid}
 use Rattle.lg_vrows.proofs.OneRows.{one_rows}
 use Rattle.lg_vrows.proofs.OneVector.{vector_wide}
 use Rattle.lg_vrows.proofs.PortLemmas.{pins_differ}
-use Rattle.lg_run.specs.Due.{IsAgreedText}
+use Rattle.lg_run.specs.declared.status.Status.{Status}
+use Rattle.lg_run.specs.declared.stop.Refusal.TheVariants.{TooLong}
+use Rattle.lg_run.specs.declared.stop.Stop.TheVariants.{Input}
+use Rattle.lg_run.specs.declared.vrun.TheConstants.{MODULE_LENGTH, ROWS_LENGTH}
+use Rattle.lg_run.specs.Due.{Held, Due, Writes, Stops, IsAgreedText, IsOutputsDue, IsRowsDue, IsValidDue, OnModule, NoModule, IsVrunDue, IsDueFor, IsDue}
 use Rattle.lg_run.specs.OneSheet.{IsBuilt}
 use Rattle.lg_run.specs.StaticText.{IsStaticText}
+use Rattle.lg_run.specs.Words.{Command, Vrun, command_of}
 use Rattle.lg_run.proofs.OneSheetLemmas.{clockless}
 
 no_clock : (project : Project) (n : Netlist) → IsBuilt project n → has_no_clock n ≡ true
@@ -74,10 +80,40 @@ read_again bytes text exported fits =
       valid = exported.agrees.valid;
     }
 
-pub static_rows : (bytes text : List ℕ) (exported : IsAgreedText bytes text) → length text ≤ 134217728 → (m : Module) → IsValidText text m → (rows printed : List ℕ) → IsRowsText m rows printed
+static_rows : (bytes text : List ℕ) (exported : IsAgreedText bytes text) → length text ≤ 134217728 → (m : Module) → IsValidText text m → (rows printed : List ℕ) → IsRowsText m rows printed
     → IsStaticText exported.made.netlist rows printed
 static_rows bytes text exported fits m valid rows printed is =
     let n = exported.made.netlist in
     let none = no_clock exported.made.project n exported.made.built in
     let same : m ≡ module_of n = one_valid text m (module_of n) valid (read_again bytes text exported fits) in
     static_text n none exported.made.accepted exported.agrees.valid rows printed (subst (λ (m : Module). IsRowsText m rows printed) same is)
+
+-- what is due for an exported text and rows
+module _ (bytes text : List ℕ) (exported : IsAgreedText bytes text) (of_module of_rows rows : List ℕ) (status : Status) (printed : List ℕ) where
+  abbrev Static : Type 0
+  Static = IsStaticText exported.made.netlist rows printed
+
+  by_rows : length text ≤ MODULE_LENGTH → (m : Module) → IsValidText text m → (long : Bool)
+      → MatchBool long (◌≡◌ {A = Due} (Writes status printed) (Stops (Input TooLong) of_rows)) (IsOutputsDue m of_rows rows (Writes status printed)) → Static
+  by_rows fits m valid true h = absurd (cc h)
+  by_rows fits m valid false h = static_rows bytes text exported fits m valid rows printed h.1
+
+  by_module : length text ≤ MODULE_LENGTH → IsValidDue of_module of_rows text (Some rows) (Writes status printed) → Static
+  by_module fits (OnModule m valid h) = by_rows fits m valid (nat_lt ROWS_LENGTH (length rows)) h
+  by_module fits (NoModule fault some is e) = absurd (cc e)
+
+  by_length : (long : Bool) → nat_lt MODULE_LENGTH (length text) ≡ long
+      → MatchBool long (◌≡◌ {A = Due} (Writes status printed) (Stops (Input TooLong) of_module)) (IsValidDue of_module of_rows text (Some rows) (Writes status printed)) → Static
+  by_length true e h = absurd (cc h)
+  by_length false e h = by_module (ltb-false MODULE_LENGTH (length text) e) h
+
+  of_due : (held : Held) → held of_module ≡ Some text → held of_rows ≡ Some rows → IsDueFor (Some (Vrun of_module of_rows)) (Some held) (Writes status printed) → Static
+  of_due held has_module has_rows (found, others, finds, finds_rows, h) =
+      let on_rows = subst (λ (o : Option (List ℕ)). IsVrunDue of_module of_rows found o (Writes status printed)) (sym finds_rows ∙ has_rows) h in
+      let on_both = subst (λ (o : Option (List ℕ)). IsVrunDue of_module of_rows o (Some rows) (Writes status printed)) (sym finds ∙ has_module) on_rows in
+      by_length (nat_lt MODULE_LENGTH (length text)) refl on_both
+
+pub due_is_static : (bytes text : List ℕ) (exported : IsAgreedText bytes text) (words : List (List ℕ)) (held : Held) (of_module of_rows rows : List ℕ) → command_of words ≡ Some (Vrun of_module of_rows) → held of_module ≡ Some text
+    → held of_rows ≡ Some rows → (status : Status) (printed : List ℕ) → IsDue words (Some held) (Writes status printed) → IsStaticText exported.made.netlist rows printed
+due_is_static bytes text exported words held of_module of_rows rows asked has_module has_rows status printed due =
+    of_due bytes text exported of_module of_rows rows status printed held has_module has_rows (subst (λ (c : Option Command). IsDueFor c (Some held) (Writes status printed)) asked due)

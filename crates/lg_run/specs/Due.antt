@@ -1,11 +1,10 @@
 -- What is due for some words and some files: a text with its status, or the first stop in the order of the verb's steps.
-use Rattle.std.specs.Prelude.{◌≡◌, ◌≢◌, ℕ, ◌≤◌, List, [], length, Option, Some, None, nat_lt, MatchBool, ◌⊎◌}
+use Rattle.std.specs.Prelude.{◌≡◌, ◌≢◌, ℕ, ◌≤◌, List, [], length, Option, Some, None, nat_lt, MatchBool, IfSome, ◌⊎◌}
 use Rattle.lg_run.specs.declared.status.Status.{Status}
 use Rattle.lg_run.specs.declared.status.Status.TheVariants.{Done}
 use Rattle.lg_run.specs.declared.stop.Refusal.TheVariants.{Missing, TooLong, TooDeep, NotProject, NotBuilt, OfModule, OfRows}
 use Rattle.lg_run.specs.declared.stop.Stop.{Stop}
 use Rattle.lg_run.specs.declared.stop.Stop.TheVariants.{Usage, Input, NotAccepted, ReadFault, WriteFault, Memory}
-use Rattle.lg_circ.specs.declared.read.TheConstants.{GREATEST_LENGTH}
 use Rattle.lg_circ.specs.declared.project.Project.{Project}
 use Rattle.lg_circ.specs.Project.{SaysProject, IsTooDeep, IsNoProject}
 use Rattle.lg_export.specs.Agreement.{Agrees}
@@ -25,7 +24,10 @@ use Rattle.lg_vrows.specs.declared.fault.ModuleFault.TheVariants as module_fault
 use Rattle.lg_vrows.specs.declared.fault.RowsFault.{RowsFault}
 use Rattle.lg_vrows.specs.declared.fault.RowsFault.TheVariants as rows_fault
 
--- how many bytes a file has at most: one with a module, and one with rows
+-- how many bytes a file has at most: one with a project, one with a module, and one with rows
+abbrev pub project_length : ℕ
+project_length = 8388608
+
 abbrev pub module_length : ℕ
 module_length = 134217728
 
@@ -41,8 +43,12 @@ pub data Due : Type 0 where
 abbrev pub Held : Type 0
 Held = List ℕ → Option (List ℕ)
 
+-- what a read of a file finds: what is held, where the files tell it, and else anything
+abbrev pub Finds : Option Held → List ℕ → Option (List ℕ) → Type 0
+Finds told file found = IfSome told (λ held. held file ≡ found)
+
 -- the bytes say a project with a circuit that is built, its netlist is accepted, and this is the text of its module
-pub record IsModuleText (bytes text : List ℕ) : Type 0 where
+pub record IsExportText (bytes text : List ℕ) : Type 0 where
   pub project : Project
   pub netlist : Netlist
   pub says : SaysProject bytes project
@@ -60,9 +66,9 @@ pub record IsRefusedText (bytes : List ℕ) (reason : Refused) : Type 0 where
 
 -- the text is that of a valid module which agrees with the netlist of the project in the bytes, without time and in time
 pub record IsAgreedText (bytes text : List ℕ) : Type 0 where
-  pub made : IsModuleText bytes text
+  pub made : IsExportText bytes text
   -- no other text is that of the bytes' module
-  pub only : (other : List ℕ) → IsModuleText bytes other → other ≡ text
+  pub only : (other : List ℕ) → IsExportText bytes other → other ≡ text
   -- the text is one of the module in the grammar of modules
   pub in_grammar : IsTextOf text (module_of made.netlist)
   pub agrees : Agrees made.netlist (module_of made.netlist)
@@ -87,14 +93,14 @@ IsNoModule bytes Memory = ⊥
 
 -- the text of the module, or why there is none
 abbrev pub IsModuleDue : List ℕ → List ℕ → Due → Type 0
-IsModuleDue file bytes (Writes status text) = (status ≡ Done) × IsModuleText bytes text
+IsModuleDue file bytes (Writes status text) = (status ≡ Done) × IsExportText bytes text
 IsModuleDue file bytes (Stops stop about) = IsNoModule bytes stop × (about ≡ file)
 
 -- TooLong before all that the bytes say
 abbrev pub IsExportDue : List ℕ → Option (List ℕ) → Due → Type 0
 IsExportDue file None due = due ≡ Stops (Input Missing) file
 IsExportDue file (Some bytes) due =
-    MatchBool (nat_lt GREATEST_LENGTH (length bytes)) (due ≡ Stops (Input TooLong) file) (IsModuleDue file bytes due)
+    MatchBool (nat_lt project_length (length bytes)) (due ≡ Stops (Input TooLong) file) (IsModuleDue file bytes due)
 
 -- the text of the outputs of a module on the rows in a file, or why there is none
 abbrev pub IsOutputsDue : Module → List ℕ → List ℕ → Due → Type 0
@@ -107,7 +113,7 @@ abbrev pub IsRowsDue : Module → List ℕ → Option (List ℕ) → Due → Typ
 IsRowsDue m file None due = due ≡ Stops (Input Missing) file
 IsRowsDue m file (Some bytes) due = MatchBool (nat_lt rows_length (length bytes)) (due ≡ Stops (Input TooLong) file) (IsOutputsDue m file bytes due)
 
--- the rows on the valid module of some bytes, or why they have none
+-- what is due of the rows on the valid module of some bytes, or of bytes that are none
 pub data IsValidDue (of_module of_rows bytes : List ℕ) (rows : Option (List ℕ)) (due : Due) : Type 0 where
   OnModule : (m : Module) → IsValidText bytes m → IsRowsDue m of_rows rows due → IsValidDue of_module of_rows bytes rows due
   NoModule : (fault : ModuleFault) → fault ≢ module_fault.Memory → IsModuleFault bytes fault → due ≡ Stops (Input (OfModule fault)) of_module
@@ -119,23 +125,24 @@ IsVrunDue of_module of_rows None rows due = due ≡ Stops (Input Missing) of_mod
 IsVrunDue of_module of_rows (Some bytes) rows due =
     MatchBool (nat_lt module_length (length bytes)) (due ≡ Stops (Input TooLong) of_module) (IsValidDue of_module of_rows bytes rows due)
 
--- a case for each command
-abbrev pub IsCommandDue : Command → Held → Due → Type 0
-IsCommandDue (Export file) held due = IsExportDue file (held file) due
-IsCommandDue (Vrun of_module of_rows) held due = IsVrunDue of_module of_rows (held of_module) (held of_rows) due
+-- a case for each command, by what its reads find
+abbrev pub IsCommandDue : Command → Option Held → Due → Type 0
+IsCommandDue (Export file) told due = (found : Option (List ℕ)) × Finds told file found × IsExportDue file found due
+IsCommandDue (Vrun of_module of_rows) told due =
+    (found : Option (List ℕ)) × (rows : Option (List ℕ)) × Finds told of_module found × Finds told of_rows rows × IsVrunDue of_module of_rows found rows due
 
--- the command's steps read the file: the rows only after the module was found valid
-abbrev pub Reads : Command → Held → List ℕ → Type 0
-Reads (Export file) held about = about ≡ file
-Reads (Vrun of_module of_rows) held about =
+-- the command reads the file: the rows only after a valid module
+abbrev pub Reads : Command → Option Held → List ℕ → Type 0
+Reads (Export file) told about = about ≡ file
+Reads (Vrun of_module of_rows) told about =
     (about ≡ of_module)
-    ⊎ ((about ≡ of_rows) × ((bytes : List ℕ) × (m : Module) × (held of_module ≡ Some bytes) × (length bytes ≤ module_length) × IsValidText bytes m))
+    ⊎ ((about ≡ of_rows) × ((bytes : List ℕ) × (m : Module) × Finds told of_module (Some bytes) × (length bytes ≤ module_length) × IsValidText bytes m))
 
 -- words that are no command are told how commands are written
-abbrev pub IsDueFor : Option Command → Held → Due → Type 0
-IsDueFor None held due = due ≡ Stops Usage []
-IsDueFor (Some c) held due = IsCommandDue c held due
+abbrev pub IsDueFor : Option Command → Option Held → Due → Type 0
+IsDueFor None told due = due ≡ Stops Usage []
+IsDueFor (Some c) told due = IsCommandDue c told due
 
--- this is due for the words where the files hold this
-abbrev pub IsDue : List (List ℕ) → Held → Due → Type 0
-IsDue words held due = IsDueFor (command_of words) held due
+-- this is due for the words, for the contents that the files hold, where they tell them, and else for some
+abbrev pub IsDue : List (List ℕ) → Option Held → Due → Type 0
+IsDue words told due = IsDueFor (command_of words) told due

@@ -24,7 +24,7 @@ status_of stop.ReadFault = status.ReadFault
 status_of stop.WriteFault = status.WriteFault
 status_of stop.Memory = status.Memory
 
--- why rows are refused
+-- why rows are refused; the word `Memory` in these texts is for refusals that are never due
 abbrev pub vector_text : VectorFault → List ℕ
 vector_text (vector.NotVector line) = codes "NotVector " ++ decimal line
 vector_text (vector.NoPin name) = codes "NoPin " ++ name

@@ -1,18 +1,15 @@
 -- What a run leaves: its status, what the output took, and its line.
-use Rattle.std.specs.Prelude.{◌≡◌, ◌≢◌, ℕ, List, [], Option, Some, None, ◌⊎◌}
+use Rattle.std.specs.Prelude.{◌≡◌, ℕ, ◌≤◌, List, [], length, Option, Some, ◌⊎◌}
 use Rattle.lg_io.specs.Fault.{HasRisen}
 use Rattle.lg_io.specs.Files as files
 use Rattle.lg_io.specs.Sink.{Seen, Took, TookPrefix, Said}
-use Rattle.lg_netlist.specs.declared.acceptance.NotAccepted.{NotAccepted}
-use Rattle.lg_netlist.specs.declared.acceptance.NotAccepted.TheVariants as not_accepted
 use Rattle.lg_run.specs.declared.status.Status.{Status}
 use Rattle.lg_run.specs.declared.status.Status.TheVariants as status
-use Rattle.lg_run.specs.declared.stop.Refusal.{Refusal}
 use Rattle.lg_run.specs.declared.stop.Stop.{Stop}
 use Rattle.lg_run.specs.declared.stop.Stop.TheVariants as stop
-use Rattle.lg_run.specs.Due.{Held, Due, Writes, Stops, IsDue, IsAgreedText, Reads}
+use Rattle.lg_run.specs.Due.{Held, Finds, Due, project_length, Writes, Stops, IsDue, IsAgreedText, Reads}
 use Rattle.lg_run.specs.Lines.{status_of, line_of}
-use Rattle.lg_run.specs.Words.{Command, Export, command_of, NamesFile}
+use Rattle.lg_run.specs.Words.{Command, Export, command_of}
 
 -- the exit status
 abbrev pub code_of : Status → ℕ
@@ -25,29 +22,30 @@ code_of status.WriteFault = 6
 code_of status.Memory = 9
 
 -- the text that is due with this status was taken, all of it
-pub record WroteDue (words : List (List ℕ)) (held : Held) (status : Status) (before after : Seen) : Type 0 where
+pub record WroteDue (words : List (List ℕ)) (told : Option Held) (status : Status) (before after : Seen) : Type 0 where
   pub text : List ℕ
-  pub due : IsDue words held (Writes status text)
+  pub due : IsDue words told (Writes status text)
   pub took : Took before after text
 
 -- a prefix of the due text was taken
-pub record WrotePrefix (words : List (List ℕ)) (held : Held) (before after : Seen) : Type 0 where
+pub record WrotePrefix (words : List (List ℕ)) (told : Option Held) (before after : Seen) : Type 0 where
   pub status : Status
   pub text : List ℕ
-  pub due : IsDue words held (Writes status text)
+  pub due : IsDue words told (Writes status text)
   pub took : TookPrefix before after text
 
--- the text that was taken is that of a module which agrees with the netlist of the project in the named file
-pub record WroteAgreed (file : List ℕ) (held : Held) (before after : Seen) : Type 0 where
+-- the text that was taken is that of a module which agrees with the netlist of the project that a read of the file finds
+pub record WroteAgreed (file : List ℕ) (told : Option Held) (before after : Seen) : Type 0 where
   pub bytes : List ℕ
   pub text : List ℕ
-  pub holds : held file ≡ Some bytes
+  pub finds : Finds told file (Some bytes)
+  pub fits : length bytes ≤ project_length
   pub agreed : IsAgreedText bytes text
   pub took : Took before after text
 
 -- so it is where the words ask for an export
-abbrev pub AgreesIfExported : List (List ℕ) → Held → Seen → Seen → Type 0
-AgreesIfExported words held before after = (file : List ℕ) → command_of words ≡ Some (Export file) → WroteAgreed file held before after
+abbrev pub AgreesIfExported : List (List ℕ) → Option Held → Seen → Seen → Type 0
+AgreesIfExported words told before after = (file : List ℕ) → command_of words ≡ Some (Export file) → WroteAgreed file told before after
 
 -- how a write of the text that was asked for ended: all of it was taken, or a prefix of it and the count rose
 abbrev pub Ends : Status → Seen → Seen → List ℕ → Type 0
@@ -55,7 +53,7 @@ Ends status.Done before after text = Took before after text
 Ends status.WriteFault before after text = TookPrefix before after text × HasRisen before.faults after.faults
 Ends _ before after text = ⊥
 
--- after each status but these two the output is as it was
+-- after each status but 0 and 6 the output is as it was
 abbrev pub KeepsOutput : {O : Type 0} → O → O → Status → Type 0
 KeepsOutput before after status.Done = Unit {0}
 KeepsOutput before after status.WriteFault = Unit {0}
@@ -65,17 +63,29 @@ KeepsOutput before after status.NotAccepted = after ≡ before
 KeepsOutput before after status.ReadFault = after ≡ before
 KeepsOutput before after status.Memory = after ≡ before
 
--- the stop after which a run ends with this line; where the files tell, a refusal is the one that is due, and a read that failed
--- is one of the command's steps; where they tell nothing it is some refusal, and some file of the command
+-- the line is that of a stop which is due, and which has this status
+pub record IsDueLine (words : List (List ℕ)) (told : Option Held) (status : Status) (line : List ℕ) : Type 0 where
+  pub why : Stop
+  pub file : List ℕ
+  pub due : IsDue words told (Stops why file)
+  pub of_status : status_of why ≡ status
+  pub of_stop : line ≡ line_of why file
+
+-- the line is that of a read fault, of a file that the command reads
+pub record IsReadFaultLine (words : List (List ℕ)) (told : Option Held) (line : List ℕ) : Type 0 where
+  pub command : Command
+  pub file : List ℕ
+  pub asked : command_of words ≡ Some command
+  pub reads : Reads command told file
+  pub of_stop : line ≡ line_of stop.ReadFault file
+
+-- the line with which a run ends that has this status
 abbrev pub IsLine : List (List ℕ) → Option Held → Status → List ℕ → Type 0
 IsLine words told status.Done line = line ≡ []
 IsLine words told status.Usage line = line ≡ line_of stop.Usage []
-IsLine words (Some held) status.Input line = (stop : Stop) × (file : List ℕ) × IsDue words held (Stops stop file) × (status_of stop ≡ status.Input) × (line ≡ line_of stop file)
-IsLine words None status.Input line = (file : List ℕ) × (refusal : Refusal) × NamesFile words file × (line ≡ line_of (stop.Input refusal) file)
-IsLine words (Some held) status.NotAccepted line = (stop : Stop) × (file : List ℕ) × IsDue words held (Stops stop file) × (status_of stop ≡ status.NotAccepted) × (line ≡ line_of stop file)
-IsLine words None status.NotAccepted line = (file : List ℕ) × (refusal : NotAccepted) × (refusal ≢ not_accepted.Memory) × NamesFile words file × (line ≡ line_of (stop.NotAccepted refusal) file)
-IsLine words (Some held) status.ReadFault line = (file : List ℕ) × (c : Command) × (command_of words ≡ Some c) × Reads c held file × (line ≡ line_of stop.ReadFault file)
-IsLine words None status.ReadFault line = (file : List ℕ) × NamesFile words file × (line ≡ line_of stop.ReadFault file)
+IsLine words told status.Input line = IsDueLine words told status.Input line
+IsLine words told status.NotAccepted line = IsDueLine words told status.NotAccepted line
+IsLine words told status.ReadFault line = IsReadFaultLine words told line
 IsLine words told status.WriteFault line = line ≡ line_of stop.WriteFault []
 IsLine words told status.Memory line = line ≡ line_of stop.Memory []
 

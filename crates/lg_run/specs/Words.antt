@@ -1,5 +1,5 @@
 -- The words of the command line, and what they ask for.
-use Rattle.std.specs.Prelude.{◌≡◌, ℕ, ◌==◌, Bool, false, ◌&&◌, not, List, [], ◌∷◌, map, Option, Some, None, ◌⊎◌, if◌then◌else◌, codes, String, string_bytes}
+use Rattle.std.specs.Prelude.{ℕ, ◌==◌, Bool, false, ◌&&◌, not, List, [], ◌∷◌, map, Option, Some, None, if◌then◌else◌, codes, String, string_bytes}
 use Rattle.std.specs.declared.alloc.Global.{Global}
 use Rattle.std.specs.Str.{bytes_eq}
 use Rattle.lg_run.specs.declared.words.Asked.{Asked}
@@ -36,12 +36,3 @@ command (asked.Vrun of_module of_rows) = Vrun of_module.now of_rows.now
 abbrev pub asks : Option Asked → Option Command
 asks None = None
 asks (Some a) = Some (command a)
-
--- the command names the file
-abbrev pub Names : Command → List ℕ → Type 0
-Names (Export file) about = about ≡ file
-Names (Vrun of_module of_rows) about = (about ≡ of_module) ⊎ (about ≡ of_rows)
-
--- the words ask for something that names the file
-abbrev pub NamesFile : List (List ℕ) → List ℕ → Type 0
-NamesFile words file = (c : Command) × (command_of words ≡ Some c) × Names c file

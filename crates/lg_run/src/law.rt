@@ -3,8 +3,9 @@
 ghost use Rattle.std.specs.Prelude.{◌≡◌, ◌≤◌, ℕ, List, Some, length, All};
 ghost use Rattle.lg_export.specs.Layout.{module_of};
 ghost use Rattle.lg_verilog.specs.declared.module.Module.{Module as Tree};
-ghost use Rattle.lg_vrows.specs.Due.{IsValidText, IsRowsText};
+ghost use Rattle.lg_vrows.specs.Due.{IsValidText};
 ghost use Rattle.lg_vrows.specs.Rows.{AreBoundRows, IsDefinedRow};
+ghost use Rattle.lg_run.specs.declared.status.Status.{Status};
 ghost use Rattle.lg_run.specs.declared.status.Status.TheVariants.{Done};
 ghost use Rattle.lg_run.specs.Due.{Held, Due, Writes, module_length, rows_length, IsDue, IsAgreedText};
 ghost use Rattle.lg_run.specs.StaticText.{IsStaticText};
@@ -12,9 +13,9 @@ ghost use Rattle.lg_run.specs.Words.{Vrun, command_of};
 
 /// For all words and contents at most one thing is due; and but for `vrun`, something is.
 pub fn one_is_due()
-    ensures one { (words : List (List ℕ)) (held : Held) (due other : Due) → IsDue words held due → IsDue words held other → other ≡ due }
+    ensures one { (words : List (List ℕ)) (held : Held) (due other : Due) → IsDue words (Some held) due → IsDue words (Some held) other → other ≡ due }
     ensures some { (words : List (List ℕ)) (held : Held) →
-        ((of_module of_rows : List ℕ) → command_of words ≡ Some (Vrun of_module of_rows) → ⊥) → (due : Due) × IsDue words held due }
+        ((of_module of_rows : List ℕ) → command_of words ≡ Some (Vrun of_module of_rows) → ⊥) → (due : Due) × IsDue words (Some held) due }
 {}
 
 /// Where one file holds a valid module, and the other rows that are bound to its inputs and defined, both within the limits,
@@ -24,14 +25,16 @@ pub fn defined_rows_have_a_due_text()
         command_of words ≡ Some (Vrun of_module of_rows) →
         held of_module ≡ Some module_bytes → length module_bytes ≤ module_length → IsValidText module_bytes m →
         held of_rows ≡ Some rows_bytes → length rows_bytes ≤ rows_length → (given : AreBoundRows m rows_bytes) → All IsDefinedRow given.rows →
-        (text : List ℕ) × IsDue words held (Writes Done text) }
+        (text : List ℕ) × IsDue words (Some held) (Writes Done text) }
 {}
 
 /// A text that `export` wrote, of at most 134,217,728 bytes, is one of the valid module that the drawing's netlist is laid out
-/// as, within the limits of the reader; and the text of this module's outputs on rows shows the static rows of the drawing.
+/// as, within the limits of the reader. Where one file holds such a text and the other rows, the text that is due for `vrun`
+/// shows the static rows of the drawing.
 pub fn exported_modules_give_static_rows()
     ensures read { (bytes text : List ℕ) (exported : IsAgreedText bytes text) → length text ≤ module_length →
         IsValidText text (module_of exported.made.netlist) }
-    ensures rows { (bytes text : List ℕ) (exported : IsAgreedText bytes text) → length text ≤ module_length → (m : Tree) → IsValidText text m →
-        (rows printed : List ℕ) → IsRowsText m rows printed → IsStaticText exported.made.netlist rows printed }
+    ensures rows { (bytes text : List ℕ) (exported : IsAgreedText bytes text) (words : List (List ℕ)) (held : Held) (of_module of_rows rows : List ℕ) →
+        command_of words ≡ Some (Vrun of_module of_rows) → held of_module ≡ Some text → held of_rows ≡ Some rows →
+        (status : Status) (printed : List ℕ) → IsDue words (Some held) (Writes status printed) → IsStaticText exported.made.netlist rows printed }
 {}

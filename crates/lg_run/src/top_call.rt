@@ -1,6 +1,6 @@
 //! The top call: from words to a status.
 
-ghost use Rattle.std.specs.Prelude.{◌≡◌, ◌↔◌, [], None, IfSome};
+ghost use Rattle.std.specs.Prelude.{◌≡◌, ◌↔◌, [], Some, None, IfSome};
 ghost use Rattle.lg_io.specs.Fault.{HasRisen};
 ghost use Rattle.lg_io.specs.Sink.{Said};
 ghost use Rattle.lg_run.specs.Words.{words_of, command_of};
@@ -27,33 +27,34 @@ pub fn run<F: Files, O: Sink, E: Sink>(
     // The words are no command.
     ensures usage { (result ≡ Status.Usage) ↔ (command_of (words_of words.now) ≡ None) }
 
-    // Where the files tell what they hold, the output has taken the due text and nothing else ..
-    ensures done { result ≡ Status.Done → IfSome (F.seen files.old).held
-        (λ held. WroteDue (words_of words.now) held result (O.seen out.old) (O.seen out.new)) }
+    // The output has taken the text that is due for the contents that the files hold, where they tell them, and else for some;
+    // and nothing else ..
+    ensures done { result ≡ Status.Done →
+        WroteDue (words_of words.now) (F.seen files.old).held result (O.seen out.old) (O.seen out.new) }
     // .. which, of an export, is that of a valid module whose outputs, on each list of rows of defined inputs, are those of
     // the static rows; and at each limit that is at least the longest chain's delay such rows have exactly one session table, in which
     // each row settles within that delay, on the module's outputs.
-    ensures agrees { result ≡ Status.Done → IfSome (F.seen files.old).held
-        (λ held. AgreesIfExported (words_of words.now) held (O.seen out.old) (O.seen out.new)) }
+    ensures agrees { result ≡ Status.Done →
+        AgreesIfExported (words_of words.now) (F.seen files.old).held (O.seen out.old) (O.seen out.new) }
 
     // A fault comes only where its count rose.
     ensures read_fault { result ≡ Status.ReadFault →
         HasRisen (F.seen files.old).faults (F.seen files.new).faults }
     ensures write_fault { result ≡ Status.WriteFault →
         HasRisen (O.seen out.old).faults (O.seen out.new).faults }
-    ensures prefix { result ≡ Status.WriteFault → IfSome (F.seen files.old).held
-        (λ held. WrotePrefix (words_of words.now) held (O.seen out.old) (O.seen out.new)) }
+    ensures prefix { result ≡ Status.WriteFault →
+        WrotePrefix (words_of words.now) (F.seen files.old).held (O.seen out.old) (O.seen out.new) }
 
     // After every other status nothing was written.
     ensures nothing_written { KeepsOutput out.old out.new result }
 
-    // The status is the due one, unless memory ran out or a count rose.
+    // Where the files tell what they hold, the status is the due one, unless memory ran out or a count rose.
     ensures complete { IfSome (F.seen files.old).held
-        (λ held. (due : Due) → IsDue (words_of words.now) held due →
+        (λ held. (due : Due) → IsDue (words_of words.now) (Some held) due →
         Follows due result (F.seen files.old) (F.seen files.new) (O.seen out.old) (O.seen out.new)) }
 
-    // The status's line was said; for an input and for a circuit that is not accepted, where the files tell what they hold,
-    // that of the stop that is due; for a read fault, that of a file that is read so far.
+    // The status's line was said: for an input and for a circuit that is not accepted that of the stop that is due, for a read
+    // fault that of a file that the command reads, the rows only after a valid module.
     ensures said { SaidLine (words_of words.now) (F.seen files.old).held result (E.seen err.old) (E.seen err.new) }
 
     ensures same_files { (F.seen files.new).held ≡ (F.seen files.old).held }

@@ -37,9 +37,9 @@ returns-in-Ok-clause-complete g c =
 pub returns-in-Err-clause-complete : goal.returns-in-Err-clause-complete
 returns-in-Err-clause-complete g c =
     complete_stopped (words_of c.args.words.now) (command c.in-Some.asked) c.in-Err.stopped.file.now (g.F.Files.seen c.args.files.now) (g.F.Files.seen c.text_of.new.files)
-    (g.O.Sink.seen c.args.out.now) (g.O.Sink.seen c.args.out.now) c.in-Err.stopped.stop c.end-in-Err.result (sym c.in-Some.ensures) c.end-in-Err.ensures.status c.in-Err.ensures.answers.1
+    (g.O.Sink.seen c.args.out.now) (g.O.Sink.seen c.args.out.now) c.in-Err.stopped.stop c.end-in-Err.result (sym c.in-Some.ensures) c.end-in-Err.ensures.status c.in-Err.ensures.answers.0
 
 pub returns-in-Err-clause-said : goal.returns-in-Err-clause-said
 returns-in-Err-clause-said g c =
     said_stopped (words_of c.args.words.now) (command c.in-Some.asked) c.in-Err.stopped.file.now (g.F.Files.seen c.args.files.now) (g.F.Files.seen c.text_of.new.files)
-    (g.E.Sink.seen c.args.err.now) (g.E.Sink.seen c.end-in-Err.new.err) c.in-Err.stopped.stop c.end-in-Err.result (sym c.in-Some.ensures) c.in-Err.ensures.answers.0 c.end-in-Err.ensures.status c.in-Err.ensures.answers.1 c.in-Err.ensures.answers.2 c.end-in-Err.ensures.said
+    (g.E.Sink.seen c.args.err.now) (g.E.Sink.seen c.end-in-Err.new.err) c.in-Err.stopped.stop c.end-in-Err.result (sym c.in-Some.ensures) c.end-in-Err.ensures.status c.in-Err.ensures.answers.0 c.in-Err.ensures.answers.1 c.end-in-Err.ensures.said
