@@ -90,24 +90,24 @@ static_rows bytes text exported fits m valid rows printed is =
 
 -- what is due for an exported text and rows
 module _ (bytes text : List ℕ) (exported : IsAgreedText bytes text) (of_module of_rows rows : List ℕ) (status : Status) (printed : List ℕ) where
-  abbrev Static : Type 0
-  Static = IsStaticText exported.made.netlist rows printed
+  abbrev Shown : Type 0
+  Shown = IsStaticText exported.made.netlist rows printed
 
   by_rows : length text ≤ MODULE_LENGTH → (m : Module) → IsValidText text m → (long : Bool)
-      → MatchBool long (◌≡◌ {A = Due} (Writes status printed) (Stops (Input TooLong) of_rows)) (IsOutputsDue m of_rows rows (Writes status printed)) → Static
+      → MatchBool long (◌≡◌ {A = Due} (Writes status printed) (Stops (Input TooLong) of_rows)) (IsOutputsDue m of_rows rows (Writes status printed)) → Shown
   by_rows fits m valid true h = absurd (cc h)
   by_rows fits m valid false h = static_rows bytes text exported fits m valid rows printed h.1
 
-  by_module : length text ≤ MODULE_LENGTH → IsValidDue of_module of_rows text (Some rows) (Writes status printed) → Static
+  by_module : length text ≤ MODULE_LENGTH → IsValidDue of_module of_rows text (Some rows) (Writes status printed) → Shown
   by_module fits (OnModule m valid h) = by_rows fits m valid (nat_lt ROWS_LENGTH (length rows)) h
   by_module fits (NoModule fault some is e) = absurd (cc e)
 
   by_length : (long : Bool) → nat_lt MODULE_LENGTH (length text) ≡ long
-      → MatchBool long (◌≡◌ {A = Due} (Writes status printed) (Stops (Input TooLong) of_module)) (IsValidDue of_module of_rows text (Some rows) (Writes status printed)) → Static
+      → MatchBool long (◌≡◌ {A = Due} (Writes status printed) (Stops (Input TooLong) of_module)) (IsValidDue of_module of_rows text (Some rows) (Writes status printed)) → Shown
   by_length true e h = absurd (cc h)
   by_length false e h = by_module (ltb-false MODULE_LENGTH (length text) e) h
 
-  of_due : (held : Held) → held of_module ≡ Some text → held of_rows ≡ Some rows → IsDueFor (Some (Vrun of_module of_rows)) (Some held) (Writes status printed) → Static
+  of_due : (held : Held) → held of_module ≡ Some text → held of_rows ≡ Some rows → IsDueFor (Some (Vrun of_module of_rows)) (Some held) (Writes status printed) → Shown
   of_due held has_module has_rows (found, others, finds, finds_rows, h) =
       let on_rows = subst (λ (o : Option (List ℕ)). IsVrunDue of_module of_rows found o (Writes status printed)) (sym finds_rows ∙ has_rows) h in
       let on_both = subst (λ (o : Option (List ℕ)). IsVrunDue of_module of_rows o (Some rows) (Writes status printed)) (sym finds ∙ has_module) on_rows in
