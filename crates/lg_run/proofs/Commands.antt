@@ -1,6 +1,7 @@
 -- What the steps of a command answer is what is due for its words.
-use Rattle.std.proofs.Common.{◌≡◌, ℕ, List, Option, Some, None, refl, sym, subst, ◌∙◌, inl, inr}
-use Rattle.std.specs.Prelude.{IfSome}
+use Rattle.std.proofs.Common.{◌≡◌, ℕ, List, [], ◌++◌, Option, Some, None, refl, sym, ap, subst, ◌∙◌, inl, inr}
+use Rattle.std.specs.Prelude.{IfSome, option_map}
+use Rattle.std.proofs.lemmas.List.{append-nil}
 use Rattle.std.proofs.lemmas.Option.{same_Some}
 use Rattle.lg_io.specs.Files as files
 use Rattle.lg_io.specs.Sink.{Seen, Took, Said}
@@ -59,6 +60,22 @@ complete_written None words c text s files_before files_after before after asked
 complete_written (Some held) words c text s files_before files_after before after asked h ends = λ due is_due.
     subst (λ (due : Due). Follows due s files_before files_after before after)
     (same_due words held (Writes status.Done text) due (due_for words c (Some held) (Writes status.Done text) asked h.0) is_due) (follows_written text s files_before files_after before after ends)
+
+-- after a write nothing was said, or that it failed
+pub said_written : (told : Option Held) (words : List (List ℕ)) (s : Status) (out_before out_after before after : Seen) (text : List ℕ) → Ends s out_before out_after text → (s ≡ status.Done → after ≡ before)
+    → (s ≡ status.WriteFault → Said before after (line_of stop.WriteFault [])) → SaidLine words told s before after
+said_written told words status.Done out_before out_after before after text ends quiet said =
+    record { line = []; is_line = refl; said = inl (subst (λ (x : Seen). Took before x []) (sym (quiet refl)) (nothing before.taken)) }
+  where
+    nothing : (taken : Option (List ℕ)) → taken ≡ option_map (λ (t : List ℕ). t ++ []) taken
+    nothing None = refl
+    nothing (Some t) = ap (λ (x : List ℕ). Some x) (sym (append-nil t))
+said_written told words status.WriteFault out_before out_after before after text ends quiet said = record { line = line_of stop.WriteFault []; is_line = refl; said = said refl }
+said_written told words status.Usage out_before out_after before after text ends quiet said = absurd ends
+said_written told words status.Input out_before out_after before after text ends quiet said = absurd ends
+said_written told words status.NotAccepted out_before out_after before after text ends quiet said = absurd ends
+said_written told words status.ReadFault out_before out_after before after text ends quiet said = absurd ends
+said_written told words status.Memory out_before out_after before after text ends quiet said = absurd ends
 
 abbrev pub StopsFor : files.Seen → files.Seen → Command → List ℕ → Stop → Type 0
 StopsFor before after c about why = StopsRightly before after (λ why. IsCommandDue c before.held (Stops why about)) why

@@ -1,8 +1,8 @@
 -- What was due decides the status, unless memory ran out or a count rose.
-use Rattle.std.proofs.Common.{sym, subst}
+use Rattle.std.proofs.Common.{sym, ap, subst}
 use Rattle.lg_run.specs.Outcome.{Ends}
 use Rattle.lg_run.specs.Words.{words_of, command}
-use Rattle.lg_run.proofs.Commands.{done_written, agrees_written, prefix_written, complete_written, complete_stopped, said_stopped}
+use Rattle.lg_run.proofs.Commands.{done_written, agrees_written, prefix_written, complete_written, said_written, complete_stopped, said_stopped}
 use Rattle.lg_run.proofs.top_call.run.Goals as goal
 
 pub returns-in-Ok-clause-done : goal.returns-in-Ok-clause-done
@@ -33,6 +33,12 @@ returns-in-Ok-clause-complete g c =
     complete_written (g.F.Files.seen c.args.files.now).held (words_of c.args.words.now) (command c.in-Some.asked) c.in-Ok.text.items c.write.result
     (g.F.Files.seen c.args.files.now) (g.F.Files.seen c.text_of.new.files) before after
     (sym c.in-Some.ensures) c.in-Ok.ensures.answers (subst (Ends c.write.result before after) c.as_slice.ensures.value c.write.ensures.ends)
+
+pub returns-in-Ok-clause-said : goal.returns-in-Ok-clause-said
+returns-in-Ok-clause-said g c =
+    let seen = g.E.Sink.seen in
+    said_written (g.F.Files.seen c.args.files.now).held (words_of c.args.words.now) c.write.result (g.O.Sink.seen c.args.out.now) (g.O.Sink.seen c.write.new.out) (seen c.args.err.now) (seen c.write.new.err)
+    c.as_slice.result.now c.write.ensures.ends (λ e. ap seen (c.write.ensures.quiet e)) c.write.ensures.said
 
 pub returns-in-Err-clause-complete : goal.returns-in-Err-clause-complete
 returns-in-Err-clause-complete g c =

@@ -1,6 +1,11 @@
 -- The rows follow the module.
-use Rattle.lg_run.proofs.Answering.{vrun_text, vrun_stop_of_rows}
+use Rattle.lg_run.proofs.Answering.{vrun_text, vrun_stop_of_module, vrun_stop_of_rows}
 use Rattle.lg_run.proofs.vrun.vrun.Goals as goal
+
+pub returns-in-Err-clause-answers : goal.returns-in-Err-clause-answers
+returns-in-Err-clause-answers g c =
+    let seen = g.F.Files.seen in
+    vrun_stop_of_module (seen c.args.files.now) (seen c.module_of.new.files) c.args.of_module c.args.of_rows.now c.in-Err.stop c.in-Err.ensures.answers
 
 pub returns-in-Ok-outputs_of-clause-answers : goal.returns-in-Ok-outputs_of-clause-answers
 returns-in-Ok-outputs_of-clause-answers g c =
