@@ -11,8 +11,6 @@ mod product;
 mod quotient;
 mod shifter;
 mod sum;
-#[cfg(test)]
-mod tests;
 
 pub use crate::count::{count_ones, least_width};
 pub use crate::extender::extend;

@@ -6,6 +6,3 @@ mod pairs;
 
 pub use attrs::Attrs;
 pub use pairs::{is_among, names_differ, value_under};
-
-#[cfg(test)]
-mod tests;

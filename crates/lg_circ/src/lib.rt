@@ -21,6 +21,3 @@ pub use law::{one_tree, texts_say_or_not};
 pub use lg_attrs::{Attrs, value_under};
 pub use project::{Comp, FARTHEST, GREATEST_LIMIT, Point, Project, Sheet, USUAL_LIMIT, Wire};
 pub use read::{GREATEST_LENGTH, read_project};
-
-#[cfg(test)]
-mod tests;

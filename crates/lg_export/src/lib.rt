@@ -8,6 +8,3 @@ mod parts;
 mod ranges;
 
 pub use layout::export;
-
-#[cfg(test)]
-mod tests;

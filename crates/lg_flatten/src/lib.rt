@@ -15,6 +15,3 @@ pub use flat::netlist;
 pub use law::sheets_have_netlists;
 pub use role::Role;
 pub use uses::roles;
-
-#[cfg(test)]
-mod tests;

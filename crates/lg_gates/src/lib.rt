@@ -7,8 +7,6 @@ mod law;
 mod outputs;
 mod plexers;
 mod selector;
-#[cfg(test)]
-mod tests;
 
 pub use crate::encoder::priority;
 pub use crate::gates::{GateKind, gate};

@@ -6,6 +6,3 @@ mod search;
 mod sorting;
 
 pub use sorting::{Sorted, sort};
-
-#[cfg(test)]
-mod tests;

@@ -28,6 +28,3 @@ pub use port::{Loose, Port, Side};
 pub use port_table::PortTable;
 pub use table::entry;
 pub use table_file::read_port_table;
-
-#[cfg(test)]
-mod tests;

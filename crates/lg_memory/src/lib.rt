@@ -16,8 +16,6 @@ mod scan;
 mod shift_register;
 mod state;
 mod storage;
-#[cfg(test)]
-mod tests;
 mod transition;
 
 pub use fault::{ImageFault, Memory};

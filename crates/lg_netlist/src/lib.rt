@@ -24,6 +24,3 @@ pub use names::{LONGEST_NAME, name_of_label, pin_names};
 pub use netlist::{Cell, Netlist, PartUse, PinUse};
 pub use numbering::numbered;
 pub use order::OrderFault;
-
-#[cfg(test)]
-mod tests;

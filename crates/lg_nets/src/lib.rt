@@ -9,6 +9,3 @@ mod rows;
 
 pub use law::sheets_have_labels;
 pub use nets::{SheetNets, sheet_nets};
-
-#[cfg(test)]
-mod tests;

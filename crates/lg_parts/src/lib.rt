@@ -21,6 +21,3 @@ pub use lg_kinds::{
 };
 pub use listing::ports;
 pub use place::turned;
-
-#[cfg(test)]
-mod tests;

@@ -101,6 +101,3 @@ impl Text {
         self.inner.push_str(more)
     }
 }
-
-#[cfg(test)]
-mod tests;

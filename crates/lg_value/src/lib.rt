@@ -2,8 +2,6 @@
 #![tactic(auto)]
 
 mod bit;
-#[cfg(test)]
-mod tests;
 mod word;
 
 pub use crate::bit::{Bit, join_bits};

@@ -22,6 +22,3 @@ pub use crate::fault::VectorFault;
 pub use crate::pin::PinShape;
 pub use crate::read::read_vector;
 pub use crate::vector::{MOST_ROWS, Vector};
-
-#[cfg(test)]
-mod tests;

@@ -26,6 +26,3 @@ pub use name::Name;
 pub use printing::print;
 pub use range::Range;
 pub use read::{GREATEST_DEPTH, GREATEST_LENGTH, read_module};
-
-#[cfg(test)]
-mod tests;

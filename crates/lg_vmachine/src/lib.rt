@@ -6,8 +6,6 @@ mod machine;
 mod regs;
 mod resolve;
 mod term;
-#[cfg(test)]
-mod tests;
 
 pub use machine::{Machine, Write, put_word};
 pub use regs::Regs;

@@ -7,8 +7,6 @@ mod ports;
 mod rows;
 mod starting;
 mod stores;
-#[cfg(test)]
-mod tests;
 mod valid_module;
 mod validity;
 

@@ -7,8 +7,6 @@ mod law;
 mod pins;
 mod reading;
 mod rows;
-#[cfg(test)]
-mod tests;
 mod text;
 
 pub use fault::{ModuleFault, RowsFault};

@@ -18,6 +18,3 @@ pub use crate::law::{
 pub use crate::memory::Memory;
 pub use crate::run::run_all;
 pub use crate::view::{MOST_JOBS, MOST_SEATS};
-
-#[cfg(test)]
-mod tests;

@@ -1,5 +1,0 @@
-use Rattle.lg_memory.specs.Shape.{HasShape}
-use Rattle.lg_memory.proofs.tests.stores.repeat.Given as goal
-
-abbrev pub invariant-loop-time : goal.invariant-loop-time
-invariant-loop-time l = HasShape l.form l.state

@@ -1,8 +1,0 @@
-use Rattle.std.proofs.Common.{◌≡◌, map, take}
-use Rattle.std.specs.Prelude.{All}
-use Rattle.lg_netlist.specs.Valid.{IsFittingPin}
-use Rattle.lg_netlist.proofs.tests.netlists.pins_on.Given as goal
-
--- fitting pins with the names so far
-abbrev pub invariant-loop-name : goal.invariant-loop-name
-invariant-loop-name g l = record { fit : All (IsFittingPin 8) l.pins; named : map (λ p. p.name) l.pins ≡ take l.name-index l.name-items }

@@ -1,6 +1,0 @@
-use Rattle.lg_vmeaning.specs.Solution.{IsOf}
-use Rattle.lg_vmeaning.proofs.tests.running.outputs_after.Given as goal
-
--- what is kept fits the module
-abbrev pub invariant-loop : goal.invariant-loop
-invariant-loop l = IsOf l.«module» l.regs

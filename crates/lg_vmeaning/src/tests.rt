@@ -1,2 +1,0 @@
-mod running;
-mod validity;
