@@ -15,9 +15,9 @@ use Rattle.lg_netlist.specs.Graph.{all_outputs}
 use Rattle.lg_netlist.proofs.OutputLemmas.{output_listed}
 use Rattle.lg_netlist.proofs.Ranks.{HasRanks}
 use Rattle.lg_netlist.specs.Static.{input_pins, output_pins, has_no_clock}
-use Rattle.lg_verilog.specs.declared.expr.Expr.{Expr}
-use Rattle.lg_verilog.specs.declared.expr.Expr.TheVariants as expr
-use Rattle.lg_verilog.specs.declared.module.Assign.{Assign}
+use Rattle.lg_vtree.specs.declared.expr.Expr.{Expr}
+use Rattle.lg_vtree.specs.declared.expr.Expr.TheVariants as expr
+use Rattle.lg_vtree.specs.declared.module.Assign.{Assign}
 use Rattle.lg_vrules.specs.Depends.{names_read, IsChain, DependsOn, IsAcyclic}
 use Rattle.lg_vrules.specs.Depends as depends
 use Rattle.lg_vmeaning.specs.InOrder.{IsIn}

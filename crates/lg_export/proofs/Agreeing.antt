@@ -13,9 +13,9 @@ use Rattle.lg_netlist.specs.Cell.{State}
 use Rattle.lg_netlist.specs.Static.{input_pins, output_pins, has_no_clock, word_on, start_states, states_after, output_words, AreStaticValues, AreTheStaticValues, AreStaticRows, IsDefinedRow}
 use Rattle.lg_netlist.proofs.Ranks.{HasRanks, ranks, none_on_cycle}
 use Rattle.lg_netlist.proofs.StaticLemmas.{static_values}
-use Rattle.lg_verilog.specs.declared.module.Assign.{Assign}
-use Rattle.lg_verilog.specs.declared.module.Decl.{Decl}
-use Rattle.lg_verilog.specs.declared.module.Module.{Module}
+use Rattle.lg_vtree.specs.declared.module.Assign.{Assign}
+use Rattle.lg_vtree.specs.declared.module.Decl.{Decl}
+use Rattle.lg_vtree.specs.declared.module.Module.{Module}
 use Rattle.lg_vrules.specs.declared.names.Sort.TheVariants as sort
 use Rattle.lg_vrules.specs.declared.names.Thing.{Thing}
 use Rattle.lg_vrules.specs.Things.{lines_of, names_of, is_input, is_output, is_memory}

@@ -4,15 +4,15 @@ use Rattle.std.specs.Prelude.{max, bit_and, bit_or, Contains}
 use Rattle.std.proofs.lemmas.Bool.{and_from}
 use Rattle.lg_netlist.specs.declared.netlist.Cell.{Cell}
 use Rattle.lg_netlist.specs.declared.netlist.Cell.TheVariants as cell
-use Rattle.lg_verilog.specs.declared.expr.Expr.{Expr, fold-Expr}
-use Rattle.lg_verilog.specs.declared.expr.Expr.TheFolds.{fold-roll-Expr}
-use Rattle.lg_verilog.specs.declared.expr.Expr.TheVariants.{rolls-Whole, rolls-Not, rolls-Binary}
-use Rattle.lg_verilog.specs.declared.expr.Expr.TheOpen.{Expr-F}
-use Rattle.lg_verilog.specs.declared.expr.Expr.TheVariants as expr
-use Rattle.lg_verilog.specs.declared.expr.Operator.{Operator}
-use Rattle.lg_verilog.specs.declared.expr.Operator.TheVariants as operator
-use Rattle.lg_verilog.specs.declared.module.Module.{Module}
-use Rattle.lg_verilog.specs.Depth.{form_depth, depth}
+use Rattle.lg_vtree.specs.declared.expr.Expr.{Expr, fold-Expr}
+use Rattle.lg_vtree.specs.declared.expr.Expr.TheFolds.{fold-roll-Expr}
+use Rattle.lg_vtree.specs.declared.expr.Expr.TheVariants.{rolls-Whole, rolls-Not, rolls-Binary}
+use Rattle.lg_vtree.specs.declared.expr.Expr.TheOpen.{Expr-F}
+use Rattle.lg_vtree.specs.declared.expr.Expr.TheVariants as expr
+use Rattle.lg_vtree.specs.declared.expr.Operator.{Operator}
+use Rattle.lg_vtree.specs.declared.expr.Operator.TheVariants as operator
+use Rattle.lg_vtree.specs.declared.module.Module.{Module}
+use Rattle.lg_vtree.specs.Depth.{form_depth, depth}
 use Rattle.lg_vrules.specs.declared.names.Sort.{Sort}
 use Rattle.lg_vrules.specs.Depends.{form_names, names_read}
 use Rattle.lg_vrules.specs.Inside.{form_inside, holds_inside}

@@ -8,8 +8,8 @@ use Rattle.lg_netlist.specs.declared.netlist.PinUse.{PinUse}
 use Rattle.lg_netlist.specs.declared.netlist.Netlist.{Netlist}
 use Rattle.lg_netlist.specs.Static.{output_pins}
 use Rattle.lg_netlist.specs.Valid.{IsFittingPart}
-use Rattle.lg_verilog.specs.declared.expr.Expr.TheVariants as expr
-use Rattle.lg_verilog.specs.declared.module.Assign.{Assign}
+use Rattle.lg_vtree.specs.declared.expr.Expr.TheVariants as expr
+use Rattle.lg_vtree.specs.declared.module.Assign.{Assign}
 use Rattle.lg_export.specs.Layout.{numbered, output_name, input_wire, output_wire, attached, bits_value, equation, part_assigns, module_assigns}
 use Rattle.lg_export.proofs.Items.{IsItem, item_either, item_of_map, item_of_flat, item_of_numbered}
 use Rattle.lg_export.proofs.Named.{x_names, w_names, part_names, wire_names, one_output}

@@ -10,9 +10,9 @@ use Rattle.lg_netlist.specs.declared.netlist.Netlist.{Netlist}
 use Rattle.lg_netlist.specs.Static.{data_pins, input_pins, output_pins}
 use Rattle.lg_netlist.specs.Valid.{IsFittingPin}
 use Rattle.lg_netlist.proofs.PinLemmas.{is_data, data_pins_from, data_pins-from}
-use Rattle.lg_verilog.specs.declared.module.Direction.TheVariants.{Input, Output}
-use Rattle.lg_verilog.specs.declared.module.Port.{Port}
-use Rattle.lg_verilog.specs.declared.module.Assign.{Assign}
+use Rattle.lg_vtree.specs.declared.module.Direction.TheVariants.{Input, Output}
+use Rattle.lg_vtree.specs.declared.module.Port.{Port}
+use Rattle.lg_vtree.specs.declared.module.Assign.{Assign}
 use Rattle.lg_export.specs.Layout.{input_name, output_name, bits_value, range_of}
 
 -- the port of an input pin and of an output pin, and an output pin's equation

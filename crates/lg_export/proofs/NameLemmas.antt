@@ -10,7 +10,7 @@ use Rattle.std.proofs.lemmas.Fmt.{decimal_by_steps, length-decimal-le}
 use Rattle.std.proofs.lemmas.List.Folds.{list_all-append}
 use Rattle.lg_netlist.specs.Names.{name_of_label}
 use Rattle.lg_netlist.proofs.SpelledLemmas.{IsShortName-of_label}
-use Rattle.lg_verilog.specs.Token.{is_digit_or_score, is_name}
+use Rattle.lg_vtree.specs.Token.{is_digit_or_score, is_name}
 use Rattle.lg_text.specs.NameByte.{is_name_byte}
 use Rattle.lg_netlist.specs.Valid.{is_pin_name}
 

@@ -13,13 +13,13 @@ use Rattle.lg_value.specs.Bit.{digit_of}
 use Rattle.lg_value.specs.Word.{number_of as word_number}
 use Rattle.lg_value.proofs.WordLemmas.{number_of_nil, number_of-cons}
 use Rattle.lg_netlist.specs.declared.netlist.Netlist.{Netlist}
-use Rattle.lg_verilog.specs.Depth.{greatest, form_depth, depth}
-use Rattle.lg_verilog.specs.declared.expr.Expr.{Expr, fold-Expr}
-use Rattle.lg_verilog.specs.declared.expr.Expr.TheFolds.{fold-roll-Expr}
-use Rattle.lg_verilog.specs.declared.expr.Expr.TheOpen.{Expr-F}
-use Rattle.lg_verilog.specs.declared.expr.Expr.TheVariants.{rolls-Whole, rolls-Place, rolls-Part, rolls-Join}
-use Rattle.lg_verilog.specs.declared.expr.Expr.TheVariants as expr
-use Rattle.lg_verilog.specs.declared.module.Module.{Module}
+use Rattle.lg_vtree.specs.Depth.{greatest, form_depth, depth}
+use Rattle.lg_vtree.specs.declared.expr.Expr.{Expr, fold-Expr}
+use Rattle.lg_vtree.specs.declared.expr.Expr.TheFolds.{fold-roll-Expr}
+use Rattle.lg_vtree.specs.declared.expr.Expr.TheOpen.{Expr-F}
+use Rattle.lg_vtree.specs.declared.expr.Expr.TheVariants.{rolls-Whole, rolls-Place, rolls-Part, rolls-Join}
+use Rattle.lg_vtree.specs.declared.expr.Expr.TheVariants as expr
+use Rattle.lg_vtree.specs.declared.module.Module.{Module}
 use Rattle.lg_vrules.specs.declared.names.Sort.{Sort}
 use Rattle.lg_vrules.specs.Depends.{form_names, names_read}
 use Rattle.lg_vrules.specs.Inside.{form_inside, folded, holds_inside}

@@ -5,9 +5,9 @@ use Rattle.std.specs.List.{enumerate_from}
 use Rattle.lg_netlist.specs.declared.netlist.Netlist.{Netlist}
 use Rattle.lg_netlist.specs.Acceptance.{IsAccepted}
 use Rattle.lg_netlist.specs.Static.{has_no_clock}
-use Rattle.lg_verilog.specs.declared.expr.Expr.{Expr}
-use Rattle.lg_verilog.specs.declared.module.Assign.{Assign}
-use Rattle.lg_verilog.specs.Depth.{greatest, depth, module_depth}
+use Rattle.lg_vtree.specs.declared.expr.Expr.{Expr}
+use Rattle.lg_vtree.specs.declared.module.Assign.{Assign}
+use Rattle.lg_vtree.specs.Depth.{greatest, depth, module_depth}
 use Rattle.lg_export.specs.Layout.{attached, equation, module_assigns, module_of}
 use Rattle.lg_export.proofs.Equations.{wholes, equation_depth}
 use Rattle.lg_export.proofs.Given.{Given, OfInput, OfPart, OfPin, given}

@@ -18,10 +18,10 @@ use Rattle.lg_netlist.specs.declared.netlist.Netlist.{Netlist}
 use Rattle.lg_netlist.specs.Acceptance.{IsAccepted, is_undriven}
 use Rattle.lg_netlist.specs.Cell.{State, cell_word, input_width, output_width}
 use Rattle.lg_netlist.specs.Static.{input_pins, output_pins, has_no_clock, word_on, inputs_of, state_of, AreStaticValues, output_words, IsDefinedRow}
-use Rattle.lg_verilog.specs.declared.expr.Expr.{Expr}
-use Rattle.lg_verilog.specs.declared.expr.Expr.TheVariants as expr
-use Rattle.lg_verilog.specs.declared.module.Assign.{Assign}
-use Rattle.lg_verilog.specs.declared.module.Module.{Module}
+use Rattle.lg_vtree.specs.declared.expr.Expr.{Expr}
+use Rattle.lg_vtree.specs.declared.expr.Expr.TheVariants as expr
+use Rattle.lg_vtree.specs.declared.module.Assign.{Assign}
+use Rattle.lg_vtree.specs.declared.module.Module.{Module}
 use Rattle.lg_vrules.specs.declared.names.Sort.TheVariants as sort
 use Rattle.lg_vrules.specs.declared.names.Thing.{Thing}
 use Rattle.lg_vrules.specs.Things.{range_width, names_of, is_output}

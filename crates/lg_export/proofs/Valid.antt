@@ -14,14 +14,14 @@ use Rattle.lg_netlist.specs.Acceptance.{IsAccepted}
 use Rattle.lg_netlist.specs.Cell.{input_width, output_width}
 use Rattle.lg_netlist.specs.Static.{input_pins, output_pins, has_no_clock}
 use Rattle.lg_netlist.specs.Valid.{HaveWidths, has_width}
-use Rattle.lg_verilog.specs.declared.expr.Expr.{Expr}
-use Rattle.lg_verilog.specs.declared.expr.Expr.TheVariants as expr
-use Rattle.lg_verilog.specs.declared.module.Assign.{Assign}
-use Rattle.lg_verilog.specs.declared.module.Direction.TheVariants.{Input, Output}
-use Rattle.lg_verilog.specs.declared.module.Decl.{Decl}
-use Rattle.lg_verilog.specs.declared.module.Decl.TheVariants as decl
-use Rattle.lg_verilog.specs.declared.module.Port.{Port}
-use Rattle.lg_verilog.specs.declared.module.Module.{Module}
+use Rattle.lg_vtree.specs.declared.expr.Expr.{Expr}
+use Rattle.lg_vtree.specs.declared.expr.Expr.TheVariants as expr
+use Rattle.lg_vtree.specs.declared.module.Assign.{Assign}
+use Rattle.lg_vtree.specs.declared.module.Direction.TheVariants.{Input, Output}
+use Rattle.lg_vtree.specs.declared.module.Decl.{Decl}
+use Rattle.lg_vtree.specs.declared.module.Decl.TheVariants as decl
+use Rattle.lg_vtree.specs.declared.module.Port.{Port}
+use Rattle.lg_vtree.specs.declared.module.Module.{Module}
 use Rattle.lg_vrules.specs.declared.names.Sort.{Sort}
 use Rattle.lg_vrules.specs.declared.names.Sort.TheVariants as sort
 use Rattle.lg_vrules.specs.declared.names.Thing.{Thing}

@@ -6,7 +6,7 @@ use Rattle.lg_value.specs.declared.bit.Bit.{Bit}
 use Rattle.lg_value.specs.Word.{IsDefined, number_of}
 use Rattle.lg_netlist.specs.declared.netlist.Netlist.{Netlist}
 use Rattle.lg_netlist.specs.Static.{input_pins, start_states, AreStaticRows, IsDefinedRow}
-use Rattle.lg_verilog.specs.declared.module.Module.{Module}
+use Rattle.lg_vtree.specs.declared.module.Module.{Module}
 use Rattle.lg_vrules.specs.Things.{lines_of, is_input}
 use Rattle.lg_vmachine.specs.Kept.{Kept}
 use Rattle.lg_vmachine.specs.Meaning.{Valuation}

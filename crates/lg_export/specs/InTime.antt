@@ -7,7 +7,7 @@ use Rattle.lg_netlist.specs.declared.netlist.Netlist.{Netlist}
 use Rattle.lg_netlist.specs.Chain.{IsLongest}
 use Rattle.lg_netlist.specs.Static.{input_pins, IsDefinedRow}
 use Rattle.lg_sim.specs.Settled.{SettlesOnRows}
-use Rattle.lg_verilog.specs.declared.module.Module.{Module}
+use Rattle.lg_vtree.specs.declared.module.Module.{Module}
 use Rattle.lg_vmeaning.specs.Rows.{start, AreRows}
 use Rattle.lg_export.specs.Agreement.{Rows, numbers_of}
 

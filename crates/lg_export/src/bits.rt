@@ -9,7 +9,7 @@ ghost use Rattle.lg_export.specs.Stack.{KnowsDrivers, as_run, as_bit, stack};
 
 use crate::names::{clock_name, input_name, output_wire};
 use lg_netlist::{Driver, Netlist};
-use lg_verilog::{Expr, Name};
+use lg_vtree::{Expr, Name};
 use sqlite_items::{Boxed, Items};
 use std::alloc::{AllocError, Global};
 

@@ -15,7 +15,7 @@ use crate::names::{input_name, module_name, output_name};
 use crate::parts::{put_assigns, put_decls};
 use crate::ranges::range_of;
 use lg_netlist::{Netlist, NotAccepted, PartUse};
-use lg_verilog::{Assign, Decl, Direction, Module, Port};
+use lg_vtree::{Assign, Decl, Direction, Module, Port};
 use sqlite_items::Items;
 use std::alloc::{AllocError, Global};
 

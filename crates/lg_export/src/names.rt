@@ -7,7 +7,7 @@ ghost use Rattle.lg_export.specs.Readable.{IsNamed};
 
 use lg_netlist::{PinUse, name_of_label};
 use lg_text::Text;
-use lg_verilog::Name;
+use lg_vtree::Name;
 use std::alloc::{AllocError, Global};
 
 // `c_NAME`

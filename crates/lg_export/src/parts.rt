@@ -9,7 +9,7 @@ use crate::bits::Wires;
 use crate::names::{input_wire, output_wire};
 use crate::ranges::range_of;
 use lg_netlist::{Cell, PartUse};
-use lg_verilog::{Assign, Decl, Expr, Operator};
+use lg_vtree::{Assign, Decl, Expr, Operator};
 use sqlite_items::{Boxed, Items};
 use std::alloc::{AllocError, Global};
 

@@ -3,7 +3,7 @@
 ghost use Rattle.std.specs.Prelude.{◌≡◌, ◌≤◌};
 ghost use Rattle.lg_export.specs.Layout.{range_of};
 
-use lg_verilog::Range;
+use lg_vtree::Range;
 
 // The range of a name of so many bits.
 pub fn range_of(width: u32) -> Range

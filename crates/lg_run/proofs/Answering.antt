@@ -1,7 +1,7 @@
 -- The answer of each command from those of its steps.
 use Rattle.std.proofs.Common.{◌≡◌, ℕ, ◌≤◌, List, Option, Ok, Err, Vec, Bor, Global, refl, inl, inr}
 use Rattle.lg_io.specs.Files.{Seen}
-use Rattle.lg_verilog.specs.declared.module.Module.{Module}
+use Rattle.lg_vtree.specs.declared.module.Module.{Module}
 use Rattle.lg_run.specs.declared.stop.Stop.{Stop}
 use Rattle.lg_run.specs.declared.stop.Stop.TheVariants as stop
 use Rattle.lg_run.specs.Answered.{ModuleAnswers, OutputsAnswers, FailsRightly, Answers}

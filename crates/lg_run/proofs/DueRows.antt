@@ -1,7 +1,7 @@
 -- A valid module and rows that are bound and defined have a text that is due.
 use Rattle.std.proofs.Common.{◌≡◌, ℕ, ◌≤◌, List, length, Option, Some, refl, sym, subst}
 use Rattle.std.specs.Prelude.{All}
-use Rattle.lg_verilog.specs.declared.module.Module.{Module}
+use Rattle.lg_vtree.specs.declared.module.Module.{Module}
 use Rattle.lg_vrows.specs.Due.{IsValidText}
 use Rattle.lg_vrows.specs.Rows.{AreBoundRows, IsDefinedRow}
 use Rattle.lg_vrows.proofs.SomeText.{rows_exist}

@@ -20,8 +20,8 @@ use Rattle.lg_flatten.specs.Uses.{roles_of}
 use Rattle.lg_flatten.proofs.OneNetlist.{one_netlist}
 use Rattle.lg_flatten.proofs.SomeNetlist.{netlist_exists}
 use Rattle.lg_export.specs.Layout.{module_of}
-use Rattle.lg_verilog.specs.declared.module.Module.{Module}
-use Rattle.lg_verilog.specs.Printed.{module_text}
+use Rattle.lg_vtree.specs.declared.module.Module.{Module}
+use Rattle.lg_vtree.specs.Printed.{module_text}
 use Rattle.lg_vmeaning.specs.Valid.{IsValid}
 use Rattle.lg_vrows.specs.declared.fault.ModuleFault.{ModuleFault}
 use Rattle.lg_vrows.specs.declared.fault.RowsFault.{RowsFault}

@@ -14,7 +14,7 @@ use Rattle.lg_netlist.specs.declared.netlist.Netlist.{Netlist}
 use Rattle.lg_netlist.specs.Acceptance.{IsAccepted}
 use Rattle.lg_netlist.specs.Static.{has_no_clock, start_states}
 use Rattle.lg_netlist.specs.Static as static
-use Rattle.lg_verilog.specs.declared.module.Module.{Module}
+use Rattle.lg_vtree.specs.declared.module.Module.{Module}
 use Rattle.lg_vmeaning.specs.Rows.{start, AreRows}
 use Rattle.lg_vmeaning.specs.Solution.{AreNumbers}
 use Rattle.lg_vmeaning.specs.Valid.{IsValid}

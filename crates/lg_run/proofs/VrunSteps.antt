@@ -6,7 +6,7 @@ use Rattle.lg_io.specs.Fault.{HasRisen}
 use Rattle.lg_io.specs.Files.{Seen, IsReadAnswer}
 use Rattle.lg_io.specs.declared.fault.FileFault.{FileFault}
 use Rattle.lg_io.specs.declared.fault.FileFault.TheVariants as file_fault
-use Rattle.lg_verilog.specs.declared.module.Module.{Module}
+use Rattle.lg_vtree.specs.declared.module.Module.{Module}
 use Rattle.lg_vrows.specs.Due.{IsValidText, IsModuleFault, IsRowsText, IsRowsFault}
 use Rattle.lg_vrows.specs.declared.fault.ModuleFault.{ModuleFault}
 use Rattle.lg_vrows.specs.declared.fault.ModuleFault.TheVariants as module_fault

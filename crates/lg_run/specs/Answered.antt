@@ -3,7 +3,7 @@ use Rattle.std.specs.Prelude.{ℕ, ◌≤◌, List, length, Option, Some, Result
 use Rattle.std.specs.declared.alloc.Global.{Global}
 use Rattle.lg_io.specs.Fault.{HasRisen}
 use Rattle.lg_io.specs.Files.{Seen}
-use Rattle.lg_verilog.specs.declared.module.Module.{Module}
+use Rattle.lg_vtree.specs.declared.module.Module.{Module}
 use Rattle.lg_vrows.specs.Due.{IsValidText}
 use Rattle.lg_run.specs.declared.status.Status.TheVariants.{Done}
 use Rattle.lg_run.specs.declared.stop.Stop.{Stop}

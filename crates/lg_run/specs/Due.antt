@@ -13,11 +13,11 @@ use Rattle.lg_export.specs.Layout.{module_of}
 use Rattle.lg_netlist.specs.declared.acceptance.NotAccepted.{NotAccepted as Refused}
 use Rattle.lg_netlist.specs.declared.netlist.Netlist.{Netlist}
 use Rattle.lg_netlist.specs.Acceptance.{IsAccepted, IsRefused}
-use Rattle.lg_verilog.specs.Grammar.{IsModuleText as IsTextOf}
-use Rattle.lg_verilog.specs.Printed.{module_text}
+use Rattle.lg_vtree.specs.Grammar.{IsModuleText as IsTextOf}
+use Rattle.lg_vtree.specs.Printed.{module_text}
 use Rattle.lg_run.specs.OneSheet.{IsBuilt, IsNotBuilt}
 use Rattle.lg_run.specs.Words.{Command, Export, Vrun, command_of}
-use Rattle.lg_verilog.specs.declared.module.Module.{Module}
+use Rattle.lg_vtree.specs.declared.module.Module.{Module}
 use Rattle.lg_vrows.specs.Due.{IsValidText, IsModuleFault, IsRowsText, IsRowsFault}
 use Rattle.lg_vrows.specs.declared.fault.ModuleFault.{ModuleFault}
 use Rattle.lg_vrows.specs.declared.fault.ModuleFault.TheVariants as module_fault

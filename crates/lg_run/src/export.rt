@@ -26,5 +26,5 @@ fn module_text(alloc: Global, bytes: &[u8]) -> Result<Vec<u8>, Stop>
     let project = read_project(alloc, bytes)?;
     let netlist = one_sheet(alloc, &project)?;
     let module = lg_export::export(alloc, &netlist)?;
-    Ok(lg_verilog::print(alloc, &module)?)
+    Ok(lg_vprint::print(alloc, &module)?)
 }

@@ -2,7 +2,7 @@
 
 ghost use Rattle.std.specs.Prelude.{◌≡◌, ◌≤◌, ℕ, List, Some, length, All};
 ghost use Rattle.lg_export.specs.Layout.{module_of};
-ghost use Rattle.lg_verilog.specs.declared.module.Module.{Module as Tree};
+ghost use Rattle.lg_vtree.specs.declared.module.Module.{Module as Tree};
 ghost use Rattle.lg_vrows.specs.Due.{IsValidText};
 ghost use Rattle.lg_vrows.specs.Rows.{AreBoundRows, IsDefinedRow};
 ghost use Rattle.lg_run.specs.declared.status.Status.{Status};

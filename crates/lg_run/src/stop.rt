@@ -109,10 +109,10 @@ impl From<RowsFault> for Stop {
     }
 }
 
-impl From<lg_verilog::Memory> for Stop {
+impl From<lg_vprint::Memory> for Stop {
     ghost from_gives = { λ _ stopped. stopped ≡ stop.Memory };
 
-    fn from(_: lg_verilog::Memory) -> Stop {
+    fn from(_: lg_vprint::Memory) -> Stop {
         Stop::Memory
     }
 }

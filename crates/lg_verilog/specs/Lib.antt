@@ -1,7 +1,5 @@
-pub mod Token
-pub mod Printed
-pub mod Grammar
-pub mod Depth
-pub mod Reading
-pub mod Lexing
-pub mod Limits
+pub use Rattle.lg_vtree.specs.Token
+pub use Rattle.lg_vtree.specs.Printed
+pub use Rattle.lg_vtree.specs.Grammar
+pub use Rattle.lg_vtree.specs.Depth
+pub use Rattle.lg_vread.specs.Limits

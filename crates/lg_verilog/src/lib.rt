@@ -1,28 +1,9 @@
-//! Modules of a small subset of Verilog, as trees and as text.
+//! Modules of a small subset of Verilog: as trees, printed and read. Each stands in a crate of its own; this one hands them on.
 #![tactic(auto)]
 
-mod class;
-mod decl_reading;
-mod expr;
-mod expr_printing;
-mod expr_reading;
-mod fault;
-mod init_reading;
-mod law;
-mod module;
-mod module_reading;
-mod name;
-mod printing;
-mod range;
-mod read;
-mod reader;
-mod spelling;
-
-pub use expr::{Constant, Expr, Operator};
-pub use fault::{Memory, ReadFault};
-pub use law::{one_module, printed_text};
-pub use module::{Assign, Decl, Direction, Edge, EdgeKind, Fill, Init, Module, Port, Stmt, Word};
-pub use name::Name;
-pub use printing::print;
-pub use range::Range;
-pub use read::{GREATEST_DEPTH, GREATEST_LENGTH, read_module};
+pub use lg_vprint::{Memory, print, printed_text};
+pub use lg_vread::{GREATEST_DEPTH, GREATEST_LENGTH, ReadFault, one_module, read_module};
+pub use lg_vtree::{
+    Assign, Constant, Decl, Direction, Edge, EdgeKind, Expr, Fill, Init, Module, Name, Operator,
+    Port, Range, Stmt, Word,
+};

@@ -6,13 +6,13 @@ use Rattle.std.specs.List.{AllByRecursion, flat_map}
 use Rattle.std.proofs.Math.Nat.{mod-lt}
 use Rattle.std.proofs.lemmas.Nat.{mul-add-lt, pow-add}
 use Rattle.std.proofs.lemmas.Nat.Bits.{bit_at-lt}
-use Rattle.lg_verilog.specs.declared.expr.Constant.{Constant}
-use Rattle.lg_verilog.specs.declared.expr.Operator.{Operator}
-use Rattle.lg_verilog.specs.declared.expr.Operator.TheVariants as operator
-use Rattle.lg_verilog.specs.declared.expr.Expr.{Expr}
-use Rattle.lg_verilog.specs.declared.expr.Expr.TheFolds.{map-Expr, fold-roll-Expr}
-use Rattle.lg_verilog.specs.declared.expr.Expr.TheOpen.{Expr-F}
-use Rattle.lg_verilog.specs.declared.module.Module.{Module}
+use Rattle.lg_vtree.specs.declared.expr.Constant.{Constant}
+use Rattle.lg_vtree.specs.declared.expr.Operator.{Operator}
+use Rattle.lg_vtree.specs.declared.expr.Operator.TheVariants as operator
+use Rattle.lg_vtree.specs.declared.expr.Expr.{Expr}
+use Rattle.lg_vtree.specs.declared.expr.Expr.TheFolds.{map-Expr, fold-roll-Expr}
+use Rattle.lg_vtree.specs.declared.expr.Expr.TheOpen.{Expr-F}
+use Rattle.lg_vtree.specs.declared.module.Module.{Module}
 use Rattle.lg_vrules.specs.Things.{width_of}
 use Rattle.lg_vrules.specs.Rules.{operator_width, is_shift, sum_of, where_, at_most_128, binary_width, choice_width, constant_fits, form_width, expr_width}
 use Rattle.lg_vrules.specs.Depends.{form_names, names_read}

@@ -3,8 +3,8 @@ use Rattle.std.proofs.Common.{◌≡◌, ℕ, ◌+◌, ◌-◌, ◌*◌, ◌%◌
 use Rattle.std.proofs.lemmas.Nat.{or_lt, xor_lt, shr_le, and_le_l, pow-add}
 use Rattle.std.proofs.Math.Nat.{mod-le, mod-lt, div-le_self, add-mul-mod_self_right}
 use Rattle.std.proofs.Math.Pow.{mod-mod-pow}
-use Rattle.lg_verilog.specs.declared.expr.Operator.{Operator}
-use Rattle.lg_verilog.specs.declared.expr.Operator.TheVariants as operator
+use Rattle.lg_vtree.specs.declared.expr.Operator.{Operator}
+use Rattle.lg_vtree.specs.declared.expr.Operator.TheVariants as operator
 use Rattle.lg_vrules.specs.Rules.{operator_width, is_shift}
 use Rattle.lg_vmachine.specs.Meaning.{number_of_test, operator_value}
 use Rattle.lg_vmachine.specs.Terms.{wide_operation}

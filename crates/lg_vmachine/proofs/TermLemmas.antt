@@ -4,10 +4,10 @@ use Rattle.std.specs.Prelude.{Contains, fold}
 use Rattle.std.specs.Int.{bit_at}
 use Rattle.std.specs.List.{AllByRecursion, flat_map}
 use Rattle.std.proofs.lemmas.List.Elements.{Contains-append_left, Contains-append_right}
-use Rattle.lg_verilog.specs.declared.expr.Expr.{Expr, fold-Expr, roll-Expr}
-use Rattle.lg_verilog.specs.declared.expr.Expr.TheFolds.{map-Expr, fold-roll-Expr}
-use Rattle.lg_verilog.specs.declared.expr.Expr.TheOpen.{Expr-F}
-use Rattle.lg_verilog.specs.declared.module.Module.{Module}
+use Rattle.lg_vtree.specs.declared.expr.Expr.{Expr, fold-Expr, roll-Expr}
+use Rattle.lg_vtree.specs.declared.expr.Expr.TheFolds.{map-Expr, fold-roll-Expr}
+use Rattle.lg_vtree.specs.declared.expr.Expr.TheOpen.{Expr-F}
+use Rattle.lg_vtree.specs.declared.module.Module.{Module}
 use Rattle.lg_vrules.specs.Things.{width_of}
 use Rattle.lg_vrules.specs.Rules.{operator_width}
 use Rattle.lg_vrules.specs.Depends.{form_names, names_read}

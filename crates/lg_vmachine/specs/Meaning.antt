@@ -2,11 +2,11 @@
 -- Source: IEEE 1364-2005, 5.1 (operators), 5.2 (operands), 5.4 (widths of expressions).
 use Rattle.std.specs.Prelude.{ℕ, ◌+◌, ◌-◌, ◌*◌, ◌/◌, ◌%◌, ◌^◌, ◌==◌, nat_lt, Bool, true, false, List, [], fold, Option, option_and_then, unwrap_or, slice_get, slice_index_or, if◌then◌else◌, bit_and, bit_or, bit_xor}
 use Rattle.std.specs.Int.{bit_at}
-use Rattle.lg_verilog.specs.declared.expr.Operator.{Operator}
-use Rattle.lg_verilog.specs.declared.expr.Operator.TheVariants as operator
-use Rattle.lg_verilog.specs.declared.expr.Expr.{Expr, fold-Expr}
-use Rattle.lg_verilog.specs.declared.expr.Expr.TheOpen.{Expr-F}
-use Rattle.lg_verilog.specs.declared.module.Module.{Module}
+use Rattle.lg_vtree.specs.declared.expr.Operator.{Operator}
+use Rattle.lg_vtree.specs.declared.expr.Operator.TheVariants as operator
+use Rattle.lg_vtree.specs.declared.expr.Expr.{Expr, fold-Expr}
+use Rattle.lg_vtree.specs.declared.expr.Expr.TheOpen.{Expr-F}
+use Rattle.lg_vtree.specs.declared.module.Module.{Module}
 use Rattle.lg_vrules.specs.Things.{width_of, names_of, is_memory}
 use Rattle.lg_vrules.specs.Rules.{operator_width}
 use Rattle.lg_vrules.specs.Places.{place_from}

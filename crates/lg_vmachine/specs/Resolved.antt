@@ -2,10 +2,10 @@
 -- Source: IEEE 1364-2005, 5.2 (operands), 5.4 (widths of expressions).
 use Rattle.std.specs.Prelude.{◌≡◌, ℕ, ◌+◌, ◌-◌, ◌^◌, ◌<◌, ◌≤◌, min, true, List, [], Option, Some, unwrap_or, fold, slice_index_or, Contains}
 use Rattle.std.specs.List.{AllByRecursion}
-use Rattle.lg_verilog.specs.declared.expr.Operator.{Operator}
-use Rattle.lg_verilog.specs.declared.expr.Expr.{Expr, fold-Expr}
-use Rattle.lg_verilog.specs.declared.expr.Expr.TheOpen.{Expr-F}
-use Rattle.lg_verilog.specs.declared.module.Module.{Module}
+use Rattle.lg_vtree.specs.declared.expr.Operator.{Operator}
+use Rattle.lg_vtree.specs.declared.expr.Expr.{Expr, fold-Expr}
+use Rattle.lg_vtree.specs.declared.expr.Expr.TheOpen.{Expr-F}
+use Rattle.lg_vtree.specs.declared.module.Module.{Module}
 use Rattle.lg_vrules.specs.declared.names.Names.{Names}
 use Rattle.lg_vrules.specs.Things.{things, width_of, sort_of, is_memory}
 use Rattle.lg_vrules.specs.Rules.{is_of, operator_width, reads_declared, expr_width}

@@ -1,9 +1,9 @@
 -- The numbers of expressions over places, as they are computed.
 use Rattle.std.specs.Prelude.{ℕ, ◌+◌, ◌-◌, ◌*◌, ◌/◌, ◌%◌, ◌^◌, ◌==◌, nat_lt, min, List, [], Option, unwrap_or, fold, slice_index_or, if◌then◌else◌, bit_and, bit_or, bit_xor}
-use Rattle.lg_verilog.specs.declared.expr.Operator.{Operator}
-use Rattle.lg_verilog.specs.declared.expr.Operator.TheVariants as operator
-use Rattle.lg_verilog.specs.declared.expr.Expr.{Expr, fold-Expr}
-use Rattle.lg_verilog.specs.declared.expr.Expr.TheOpen.{Expr-F}
+use Rattle.lg_vtree.specs.declared.expr.Operator.{Operator}
+use Rattle.lg_vtree.specs.declared.expr.Operator.TheVariants as operator
+use Rattle.lg_vtree.specs.declared.expr.Expr.{Expr, fold-Expr}
+use Rattle.lg_vtree.specs.declared.expr.Expr.TheOpen.{Expr-F}
 use Rattle.lg_vrules.specs.Rules.{operator_width}
 use Rattle.lg_vmachine.specs.declared.term.Term.{Term, fold-Term}
 use Rattle.lg_vmachine.specs.declared.term.Term.TheVariants as term

@@ -3,7 +3,7 @@
 ghost use Rattle.std.specs.Prelude.{◌≡◌, ◌-◌, ◌*◌, ◌/◌, ◌%◌, ◌^◌, min};
 ghost use Rattle.lg_vmachine.specs.Terms.{wide_operation};
 
-use lg_verilog::Operator;
+use lg_vtree::Operator;
 
 // The greatest number of a width.
 fn mask(width: u128) -> u128

@@ -6,7 +6,7 @@ ghost use Rattle.lg_vrules.specs.Places.{place_under};
 ghost use Rattle.lg_vmachine.specs.Resolved.{resolved, resolved_join, resolved_part, resolved_not, resolved_binary, resolved_choice, place_or_0, IsTermOf};
 
 use crate::term::Term;
-use lg_verilog::{Expr, Name, Operator};
+use lg_vtree::{Expr, Name, Operator};
 use lg_vrules::{Memory, Names, Places, operator_width};
 use sqlite_items::Boxed;
 use std::alloc::{AllocError, Global};

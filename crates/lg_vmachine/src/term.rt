@@ -4,7 +4,7 @@ ghost use Rattle.std.specs.Prelude.{◌≡◌, [], slice_index_or};
 ghost use Rattle.lg_vmachine.specs.Terms.{term_number};
 
 use crate::arithmetic::{complement, cut, operate, shift_left, shift_right};
-use lg_verilog::Operator;
+use lg_vtree::Operator;
 use sqlite_items::{Boxed, Items};
 
 /// An expression over a list of numbers and a list of memories.

@@ -6,10 +6,10 @@ use Rattle.std.specs.Str.{bytes_eq}
 use Rattle.std.proofs.lemmas.Bool.{and_parts}
 use Rattle.std.proofs.lemmas.List.{length-set}
 use Rattle.std.proofs.lemmas.Slice.Eq.{bytes_eq-Decides}
-use Rattle.lg_verilog.specs.declared.expr.Expr.{Expr}
-use Rattle.lg_verilog.specs.declared.module.Stmt.{Stmt}
-use Rattle.lg_verilog.specs.declared.module.Stmt.TheVariants as stmt
-use Rattle.lg_verilog.specs.declared.module.Module.{Module}
+use Rattle.lg_vtree.specs.declared.expr.Expr.{Expr}
+use Rattle.lg_vtree.specs.declared.module.Stmt.{Stmt}
+use Rattle.lg_vtree.specs.declared.module.Stmt.TheVariants as stmt
+use Rattle.lg_vtree.specs.declared.module.Module.{Module}
 use Rattle.lg_vrules.specs.Things.{sort_of, width_of, lines_of, names_of, is_input, is_reg, is_memory}
 use Rattle.lg_vrules.specs.Order.{IsOrder}
 use Rattle.lg_vrules.specs.Rules.{is_of, is_no_clock, assign_uses, stmt_uses, reads_declared, expr_width, is_width, stmt_fits, last_place, stmts_of, stored_name, first_broken}

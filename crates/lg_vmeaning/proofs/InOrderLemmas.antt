@@ -6,8 +6,8 @@ use Rattle.std.specs.Str.{bytes_eq}
 use Rattle.std.proofs.lemmas.List.{map-append, length-append, length-map}
 use Rattle.std.proofs.lemmas.List.Elements.{All-from_recursion, recursion_from_All, All-weaker, All-contains, All-contains_itself}
 use Rattle.std.proofs.lemmas.Slice.Eq.{bytes_eq-Decides}
-use Rattle.lg_verilog.specs.declared.module.Assign.{Assign}
-use Rattle.lg_verilog.specs.declared.module.Module.{Module}
+use Rattle.lg_vtree.specs.declared.module.Assign.{Assign}
+use Rattle.lg_vtree.specs.declared.module.Module.{Module}
 use Rattle.lg_vrules.specs.declared.names.Sort.{Sort}
 use Rattle.lg_vrules.specs.declared.names.Sort.TheVariants as sort
 use Rattle.lg_vrules.specs.declared.names.Thing.{Thing}

@@ -7,15 +7,15 @@ use Rattle.std.proofs.lemmas.Bool.{and_parts}
 use Rattle.std.proofs.lemmas.List.{length-set, length-replicate}
 use Rattle.std.proofs.lemmas.Option.{same_Some}
 use Rattle.std.proofs.lemmas.Slice.Eq.{bytes_eq-Decides}
-use Rattle.lg_verilog.specs.declared.expr.Constant.{Constant}
-use Rattle.lg_verilog.specs.declared.module.Direction.{Direction}
-use Rattle.lg_verilog.specs.declared.module.Direction.TheVariants.{Input as input, Output as output}
-use Rattle.lg_verilog.specs.declared.module.Port.{Port}
-use Rattle.lg_verilog.specs.declared.module.Decl.{Decl}
-use Rattle.lg_verilog.specs.declared.module.Decl.TheVariants as decl
-use Rattle.lg_verilog.specs.declared.module.Fill.{Fill}
-use Rattle.lg_verilog.specs.declared.module.Word.{Word}
-use Rattle.lg_verilog.specs.declared.module.Module.{Module}
+use Rattle.lg_vtree.specs.declared.expr.Constant.{Constant}
+use Rattle.lg_vtree.specs.declared.module.Direction.{Direction}
+use Rattle.lg_vtree.specs.declared.module.Direction.TheVariants.{Input as input, Output as output}
+use Rattle.lg_vtree.specs.declared.module.Port.{Port}
+use Rattle.lg_vtree.specs.declared.module.Decl.{Decl}
+use Rattle.lg_vtree.specs.declared.module.Decl.TheVariants as decl
+use Rattle.lg_vtree.specs.declared.module.Fill.{Fill}
+use Rattle.lg_vtree.specs.declared.module.Word.{Word}
+use Rattle.lg_vtree.specs.declared.module.Module.{Module}
 use Rattle.lg_vrules.specs.declared.names.Sort.{Sort}
 use Rattle.lg_vrules.specs.declared.names.Sort.TheVariants as sort
 use Rattle.lg_vrules.specs.declared.names.Thing.{Thing}

@@ -1,7 +1,7 @@
 -- What is found under a name while a module is made ready to run. No contract of the crate's surface speaks of this.
 use Rattle.std.specs.Prelude.{ℕ, List, Option, option_and_then, slice_get}
-use Rattle.lg_verilog.specs.declared.expr.Expr.{Expr}
-use Rattle.lg_verilog.specs.declared.module.Stmt.{Stmt}
+use Rattle.lg_vtree.specs.declared.expr.Expr.{Expr}
+use Rattle.lg_vtree.specs.declared.module.Stmt.{Stmt}
 use Rattle.lg_vrules.specs.Known.{width_under}
 use Rattle.lg_vrules.specs.Places.{place_under}
 use Rattle.lg_vmachine.specs.Resolved.{resolved}

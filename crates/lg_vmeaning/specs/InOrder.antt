@@ -1,9 +1,9 @@
 -- Equations that stand in order: each reads only names that are known before it, and gives a number to a new one.
 use Rattle.std.specs.Prelude.{filter_map, slice_get, ◌≡◌, ◌<◌, ◌^◌, ℕ, List, [], ◌∷◌, ◌++◌, ◌⊎◌, ◌↔◌, map, Contains}
 use Rattle.std.specs.List.{AllByRecursion}
-use Rattle.lg_verilog.specs.declared.expr.Expr.{Expr}
-use Rattle.lg_verilog.specs.declared.module.Assign.{Assign}
-use Rattle.lg_verilog.specs.declared.module.Module.{Module}
+use Rattle.lg_vtree.specs.declared.expr.Expr.{Expr}
+use Rattle.lg_vtree.specs.declared.module.Assign.{Assign}
+use Rattle.lg_vtree.specs.declared.module.Module.{Module}
 use Rattle.lg_vrules.specs.Things.{width_of, lines_of, names_of, is_input, is_reg, is_readable}
 use Rattle.lg_vmachine.specs.Kept.{Kept}
 use Rattle.lg_vmachine.specs.Meaning.{Valuation, number_of}

@@ -1,8 +1,8 @@
 -- The ports of a module as its users see them, and what it keeps.
 use Rattle.std.specs.Prelude.{ℕ, Bool, List, map}
-use Rattle.lg_verilog.specs.declared.module.Direction.{Direction}
-use Rattle.lg_verilog.specs.declared.module.Direction.TheVariants.{Input as input, Output as output}
-use Rattle.lg_verilog.specs.declared.module.Module.{Module}
+use Rattle.lg_vtree.specs.declared.module.Direction.{Direction}
+use Rattle.lg_vtree.specs.declared.module.Direction.TheVariants.{Input as input, Output as output}
+use Rattle.lg_vtree.specs.declared.module.Module.{Module}
 use Rattle.lg_vrules.specs.declared.names.Sort.{Sort}
 use Rattle.lg_vrules.specs.Things.{lines_of, is_input, is_output, is_reg, is_memory}
 use Rattle.lg_vmeaning.specs.declared.ports.PortLine.{PortLine}

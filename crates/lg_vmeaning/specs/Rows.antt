@@ -3,13 +3,13 @@
 -- computed before anything is stored).
 use Rattle.std.specs.Prelude.{◌≡◌, ℕ, ◌+◌, ◌==◌, List, [], ◌∷◌, map, zip, fold, find, filter_map, replicate, Option, Some, None, option_map, unwrap_or, slice_set, if◌then◌else◌}
 use Rattle.std.specs.Str.{bytes_eq}
-use Rattle.lg_verilog.specs.declared.module.Decl.{Decl}
-use Rattle.lg_verilog.specs.declared.module.Decl.TheVariants as decl
-use Rattle.lg_verilog.specs.declared.module.Fill.{Fill}
-use Rattle.lg_verilog.specs.declared.module.Word.{Word}
-use Rattle.lg_verilog.specs.declared.module.Stmt.{Stmt}
-use Rattle.lg_verilog.specs.declared.module.Stmt.TheVariants as stmt
-use Rattle.lg_verilog.specs.declared.module.Module.{Module}
+use Rattle.lg_vtree.specs.declared.module.Decl.{Decl}
+use Rattle.lg_vtree.specs.declared.module.Decl.TheVariants as decl
+use Rattle.lg_vtree.specs.declared.module.Fill.{Fill}
+use Rattle.lg_vtree.specs.declared.module.Word.{Word}
+use Rattle.lg_vtree.specs.declared.module.Stmt.{Stmt}
+use Rattle.lg_vtree.specs.declared.module.Stmt.TheVariants as stmt
+use Rattle.lg_vtree.specs.declared.module.Module.{Module}
 use Rattle.lg_vrules.specs.Rules.{stmts_of, fills_of, words_of, stored_name}
 use Rattle.lg_vrules.specs.Things.{names_of, is_output, is_reg, is_memory}
 use Rattle.lg_vmachine.specs.Kept.{Kept}

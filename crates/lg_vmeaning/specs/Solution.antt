@@ -2,8 +2,8 @@
 -- Source: IEEE 1364-2005, 6.1 (continuous assignments).
 use Rattle.std.specs.Prelude.{◌≡◌, ℕ, ◌+◌, ◌^◌, ◌<◌, List, [], ◌∷◌, map, length}
 use Rattle.std.specs.List.{AllByRecursion}
-use Rattle.lg_verilog.specs.declared.module.Assign.{Assign}
-use Rattle.lg_verilog.specs.declared.module.Module.{Module}
+use Rattle.lg_vtree.specs.declared.module.Assign.{Assign}
+use Rattle.lg_vtree.specs.declared.module.Module.{Module}
 use Rattle.lg_vrules.specs.Rules.{last_place}
 use Rattle.lg_vrules.specs.Things.{sort_of, lines_of, names_of, is_input, is_output, is_reg, is_memory, is_readable}
 use Rattle.lg_vmachine.specs.Kept.{Kept}

@@ -1,7 +1,7 @@
 -- Valid modules: they keep the seven rules, and nothing in them depends on itself.
 -- Source: IEEE 1364-2005, in a narrower form (see the rules).
 use Rattle.std.specs.Prelude.{◌≡◌, ℕ, List, Some, None}
-use Rattle.lg_verilog.specs.declared.module.Module.{Module}
+use Rattle.lg_vtree.specs.declared.module.Module.{Module}
 use Rattle.lg_vmeaning.specs.declared.validity.MeanFault.{MeanFault}
 use Rattle.lg_vmeaning.specs.declared.validity.MeanFault.TheVariants.{NotValid, Cyclic, Memory}
 use Rattle.lg_vrules.specs.declared.fault.RuleFault.{RuleFault}

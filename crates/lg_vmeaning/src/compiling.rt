@@ -14,7 +14,7 @@ ghost use Rattle.lg_vmeaning.specs.ByName.{term_by};
 use crate::kept_names::{Storage, kept_names};
 use crate::ports::PortLine;
 use crate::stores::Stores;
-use lg_verilog::{Assign, Module};
+use lg_vtree::{Assign, Module};
 use lg_vmachine::{Machine, Resolver, Term};
 use lg_vrules::{Memory, Names, Places, stmts, stored_names};
 use sqlite_items::Items;

@@ -6,7 +6,7 @@ ghost use Rattle.lg_vmeaning.specs.Rows.{start, start_number};
 ghost use Rattle.lg_vmeaning.specs.Starting.{filled_memory, filled_by, with_word_by};
 
 use crate::kept_names::{Storage, kept_names};
-use lg_verilog::{Decl, Fill, Module, Word};
+use lg_vtree::{Decl, Fill, Module, Word};
 use lg_vmachine::{Regs, put_word};
 use lg_vrules::{Memory, Places, filled_names, fills, words};
 use sqlite_items::{Items, at};

@@ -6,7 +6,7 @@ ghost use Rattle.lg_vrules.specs.Places.{place_under};
 ghost use Rattle.lg_vmeaning.specs.Compiled.{next_by, write_by};
 ghost use Rattle.lg_vmeaning.specs.ByName.{term_by, stmt_under};
 
-use lg_verilog::Stmt;
+use lg_vtree::Stmt;
 use lg_vmachine::{Resolver, Term, Write};
 use lg_vrules::{Memory, Places};
 use sqlite_items::{Items, at};

@@ -14,7 +14,7 @@ ghost use Rattle.lg_vmeaning.specs.Valid.{IsValid};
 use crate::compiling::machine_of;
 use crate::ports::{PortLine, port_lines};
 use crate::starting::start;
-use lg_verilog::{Direction, Module};
+use lg_vtree::{Direction, Module};
 use lg_vmachine::{Machine, Regs};
 use lg_vrules::{Memory, Names};
 use sqlite_items::Items;
@@ -34,10 +34,10 @@ pub struct Valid {
 }
 
 impl Model for Valid {
-    ghost use Rattle.lg_verilog.specs.declared.module.Module.{Module as Tree};
+    ghost use Rattle.lg_vtree.specs.declared.module.Module.{Module as Tree};
     ghost use Rattle.lg_vmeaning.specs.Compiled.{IsCompiled};
     ghost use Rattle.std.specs.Coded.{codes};
-    ghost use Rattle.lg_verilog.specs.contracts.expr.Expr as e;
+    ghost use Rattle.lg_vtree.specs.contracts.expr.Expr as e;
 
     ghost Value = { Tree };
 

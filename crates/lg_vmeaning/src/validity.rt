@@ -1,13 +1,13 @@
 //! Valid modules.
 
 ghost use Rattle.std.specs.Prelude.{◌≡◌, ◌<◌, Some, length, slice_get, IfOk, IfErr, OnOk};
-ghost use Rattle.lg_verilog.specs.declared.module.Assign.{Assign as Given};
+ghost use Rattle.lg_vtree.specs.declared.module.Assign.{Assign as Given};
 ghost use Rattle.lg_vmeaning.specs.Valid.{IsValid, IsInvalid, rule_fault};
 ghost use Rattle.lg_vmeaning.specs.declared.validity.MeanFault.TheVariants.{Memory as NoMemory};
 
 use crate::valid_module::Valid;
 use lg_text::Text;
-use lg_verilog::{Assign, Module};
+use lg_vtree::{Assign, Module};
 use lg_vrules::{Dependence, Memory, RuleFault, assign_order, checked_names};
 use std::alloc::{AllocError, Global};
 

@@ -6,7 +6,7 @@ use Rattle.lg_vectors.specs.declared.column.Column.{Column}
 use Rattle.lg_vectors.specs.CaredBits.{CaredBits}
 use Rattle.lg_vectors.specs.Binding.{IsBindFault, IsMissing}
 use Rattle.lg_vectors.specs.VectorText.{IsVectorText}
-use Rattle.lg_verilog.specs.declared.module.Module.{Module}
+use Rattle.lg_vtree.specs.declared.module.Module.{Module}
 use Rattle.lg_vrows.specs.Due.{IsRowsFault}
 use Rattle.lg_vrows.specs.Faults.{vector_fault}
 use Rattle.lg_vrows.specs.Rows.{input_pins}

@@ -3,10 +3,10 @@ use Rattle.std.proofs.Common.{◌≡◌, ◌≢◌, ℕ, ◌<◌, ◌⊎◌, inl
 use Rattle.std.specs.Prelude.{slice_get}
 use Rattle.std.proofs.lemmas.Bool.{cases_order}
 use Rattle.std.proofs.lemmas.Option.{same_Some}
-use Rattle.lg_verilog.specs.declared.module.Assign.{Assign}
-use Rattle.lg_verilog.specs.declared.module.Module.{Module}
-use Rattle.lg_verilog.specs.Limits.{IsWithinLimits}
-use Rattle.lg_verilog.proofs.Texts.{one_module_lem}
+use Rattle.lg_vtree.specs.declared.module.Assign.{Assign}
+use Rattle.lg_vtree.specs.declared.module.Module.{Module}
+use Rattle.lg_vread.specs.Limits.{IsWithinLimits}
+use Rattle.lg_vread.proofs.Texts.{one_module_lem}
 use Rattle.lg_vrules.specs.Depends.{IsFirstCyclic}
 use Rattle.lg_vmeaning.specs.declared.validity.MeanFault.{MeanFault}
 use Rattle.lg_vmeaning.specs.declared.validity.MeanFault.TheVariants as mean

@@ -7,7 +7,7 @@ use Rattle.lg_vectors.specs.declared.fault.VectorFault.TheVariants as vector
 use Rattle.lg_vectors.specs.declared.column.Column.{Column}
 use Rattle.lg_vectors.specs.Binding.{AreBound, IsBindFault, IsMissing}
 use Rattle.lg_vectors.specs.ReadFault.{IsReadFault}
-use Rattle.lg_verilog.specs.declared.module.Module.{Module}
+use Rattle.lg_vtree.specs.declared.module.Module.{Module}
 use Rattle.lg_vmeaning.specs.Rows.{start, AreRows}
 use Rattle.lg_vmeaning.specs.Valid.{IsValid}
 use Rattle.lg_vrows.specs.Rows.{IsDefinedRow, AreInputs, AreBoundRows, AreOutputsOf, input_pins}

@@ -10,10 +10,10 @@ use Rattle.std.proofs.lemmas.Map.Keys.{IsDistinct-cons}
 use Rattle.std.proofs.lemmas.Slice.Eq.{bytes_eq-Decides}
 use Rattle.lg_value.specs.Word.{IsWidth}
 use Rattle.lg_vectors.specs.Binding.{pin_names}
-use Rattle.lg_verilog.specs.declared.module.Decl.{Decl}
-use Rattle.lg_verilog.specs.declared.module.Decl.TheVariants as decl
-use Rattle.lg_verilog.specs.declared.module.Port.{Port}
-use Rattle.lg_verilog.specs.declared.module.Module.{Module}
+use Rattle.lg_vtree.specs.declared.module.Decl.{Decl}
+use Rattle.lg_vtree.specs.declared.module.Decl.TheVariants as decl
+use Rattle.lg_vtree.specs.declared.module.Port.{Port}
+use Rattle.lg_vtree.specs.declared.module.Module.{Module}
 use Rattle.lg_vrules.specs.declared.names.Sort.{Sort}
 use Rattle.lg_vrules.specs.declared.names.Sort.TheVariants as sort
 use Rattle.lg_vrules.specs.Things.{range_width, port_thing, decl_thing, things, names, lines_of, names_of, is_input, is_output}

@@ -10,7 +10,7 @@ use Rattle.lg_vectors.specs.declared.pin.PinShape.{PinShape}
 use Rattle.lg_vectors.specs.Binding.{AreBound}
 use Rattle.lg_vectors.specs.CaredBits.{CaredBits}
 use Rattle.lg_vectors.specs.Rows.{IsRowOf}
-use Rattle.lg_verilog.specs.declared.module.Module.{Module}
+use Rattle.lg_vtree.specs.declared.module.Module.{Module}
 use Rattle.lg_vrules.specs.Things.{lines_of, names_of, is_input, is_output}
 use Rattle.lg_vrules.specs.Order.{IsOrder}
 use Rattle.lg_vmachine.specs.Kept.{Kept}

@@ -7,8 +7,8 @@ use Rattle.lg_vectors.specs.CaredBits.{CaredBits}
 use Rattle.lg_vectors.specs.ReadFault.{IsReadFault}
 use Rattle.lg_vectors.specs.Binding.{IsBindFault, IsMissing}
 use Rattle.lg_vectors.specs.VectorText.{IsVectorText}
-use Rattle.lg_verilog.specs.declared.module.Module.{Module}
-use Rattle.lg_verilog.specs.Limits.{IsWithinLimits}
+use Rattle.lg_vtree.specs.declared.module.Module.{Module}
+use Rattle.lg_vread.specs.Limits.{IsWithinLimits}
 use Rattle.lg_vmeaning.specs.declared.validity.MeanFault.{MeanFault}
 use Rattle.lg_vmeaning.specs.declared.validity.MeanFault.TheVariants as mean
 use Rattle.lg_vmeaning.specs.Valid.{IsValid, IsInvalid}

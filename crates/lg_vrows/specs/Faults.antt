@@ -1,8 +1,8 @@
 -- Which fault each refusal of a step is.
 use Rattle.lg_vectors.specs.declared.fault.VectorFault.{VectorFault}
 use Rattle.lg_vectors.specs.declared.fault.VectorFault.TheVariants as vector
-use Rattle.lg_verilog.specs.declared.fault.ReadFault.{ReadFault}
-use Rattle.lg_verilog.specs.declared.fault.ReadFault.TheVariants as read
+use Rattle.lg_vread.specs.declared.fault.ReadFault.{ReadFault}
+use Rattle.lg_vread.specs.declared.fault.ReadFault.TheVariants as read
 use Rattle.lg_vmeaning.specs.declared.validity.MeanFault.{MeanFault}
 use Rattle.lg_vmeaning.specs.declared.validity.MeanFault.TheVariants as mean
 use Rattle.lg_vrows.specs.declared.fault.ModuleFault.{ModuleFault}

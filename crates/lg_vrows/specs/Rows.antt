@@ -9,7 +9,7 @@ use Rattle.lg_vectors.specs.declared.pin.PinShape.{PinShape}
 use Rattle.lg_vectors.specs.CaredBits.{CaredBits}
 use Rattle.lg_vectors.specs.Binding.{AreBound, HaveColumns}
 use Rattle.lg_vectors.specs.VectorText.{IsVectorText}
-use Rattle.lg_verilog.specs.declared.module.Module.{Module}
+use Rattle.lg_vtree.specs.declared.module.Module.{Module}
 use Rattle.lg_vrules.specs.Things.{lines_of, is_input}
 use Rattle.lg_vmeaning.specs.Rows.{start, AreRows as AreOutputs}
 

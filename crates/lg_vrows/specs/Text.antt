@@ -4,7 +4,7 @@ use Rattle.std.specs.List.{flat_map, enumerate_from}
 use Rattle.std.specs.Fmt.{decimal}
 use Rattle.lg_value.specs.Bit.{digit_of}
 use Rattle.lg_value.specs.Word.{word_of_number}
-use Rattle.lg_verilog.specs.declared.module.Module.{Module}
+use Rattle.lg_vtree.specs.declared.module.Module.{Module}
 use Rattle.lg_vrules.specs.Things.{lines_of, is_output}
 use Rattle.lg_vrows.specs.Rows.{plain}
 

@@ -6,7 +6,7 @@ ghost use Rattle.lg_vrows.specs.declared.fault.RowsFault.TheVariants.{Memory as 
 
 use lg_text::Text;
 use lg_vectors::VectorFault;
-use lg_verilog::ReadFault;
+use lg_vread::ReadFault;
 use lg_vmeaning::MeanFault;
 use lg_vrules::Memory;
 use std::alloc::{AllocError, AllocFailed};

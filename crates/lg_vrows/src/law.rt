@@ -1,7 +1,7 @@
 //! Laws of what is due.
 
 ghost use Rattle.std.specs.Prelude.{◌≡◌, ◌≢◌, ℕ, List, All};
-ghost use Rattle.lg_verilog.specs.declared.module.Module.{Module as Tree};
+ghost use Rattle.lg_vtree.specs.declared.module.Module.{Module as Tree};
 ghost use Rattle.lg_vmeaning.specs.Valid.{IsValid};
 ghost use Rattle.lg_vrows.specs.Rows.{AreBoundRows, IsDefinedRow};
 ghost use Rattle.lg_vrows.specs.Due.{IsValidText, IsModuleFault, IsRowsText, IsRowsFault};

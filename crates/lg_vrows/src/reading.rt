@@ -4,7 +4,7 @@ ghost use Rattle.std.specs.Prelude.{IfOk, IfErr};
 ghost use Rattle.lg_vrows.specs.Due.{IsValidText, IsModuleFault};
 
 use crate::fault::ModuleFault;
-use lg_verilog::read_module;
+use lg_vread::read_module;
 use lg_vmeaning::{Valid, valid};
 use std::alloc::Global;
 

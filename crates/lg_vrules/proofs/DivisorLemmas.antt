@@ -2,11 +2,11 @@
 use Rattle.std.proofs.Common.{◌≡◌, suc, Bool, true, false, ◌&&◌, ◌||◌, List, [], ◌∷◌, length, map, refl, sym, ap, ◌∙◌}
 use Rattle.std.specs.Prelude.{not}
 use Rattle.std.specs.List.{list_all}
-use Rattle.lg_verilog.specs.declared.expr.Operator.{Operator}
-use Rattle.lg_verilog.specs.declared.expr.Expr.{Expr, out-Expr}
-use Rattle.lg_verilog.specs.declared.expr.Expr.TheOpen.{Expr-F}
-use Rattle.lg_verilog.specs.declared.expr.Expr.TheVariants.{rolls-Join, rolls-Binary}
-use Rattle.lg_verilog.specs.declared.expr.Expr.TheVariants as expr
+use Rattle.lg_vtree.specs.declared.expr.Operator.{Operator}
+use Rattle.lg_vtree.specs.declared.expr.Expr.{Expr, out-Expr}
+use Rattle.lg_vtree.specs.declared.expr.Expr.TheOpen.{Expr-F}
+use Rattle.lg_vtree.specs.declared.expr.Expr.TheVariants.{rolls-Join, rolls-Binary}
+use Rattle.lg_vtree.specs.declared.expr.Expr.TheVariants as expr
 use Rattle.lg_vrules.specs.Rules.{same_each, is_division, is_divisor, divides_safely}
 use Rattle.lg_vrules.specs.Inside.{holds_inside}
 use Rattle.lg_vrules.proofs.InsideLemmas.{inside-roll}

@@ -9,8 +9,8 @@ use Rattle.std.proofs.lemmas.Option.{same_Some, slice_get-map, slice_get_within,
 use Rattle.std.proofs.lemmas.Slice.Eq.{bytes_eq-Decides}
 use Rattle.lg_graph.specs.Graph.{Graph, IsGraph, HasArrow, IsWay, Leads, StandsBefore, IsSorted}
 use Rattle.lg_graph.specs.declared.sorting.Sorted.{Sorted}
-use Rattle.lg_verilog.specs.declared.module.Assign.{Assign}
-use Rattle.lg_verilog.specs.declared.module.Module.{Module}
+use Rattle.lg_vtree.specs.declared.module.Assign.{Assign}
+use Rattle.lg_vtree.specs.declared.module.Module.{Module}
 use Rattle.lg_vrules.specs.Rules.{is_among, all_differ}
 use Rattle.lg_vrules.specs.Places.{place_from, place_list, places_of, first_marked_from}
 use Rattle.lg_vrules.specs.Depends.{names_read, Reads, IsChain, DependsOn, IsFirstCyclic, IsAcyclic}

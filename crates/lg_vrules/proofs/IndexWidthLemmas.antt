@@ -1,10 +1,10 @@
 -- Widths of indices, and indices inside expressions.
 use Rattle.std.proofs.Common.{◌≡◌, ℕ, zero, suc, ◌+◌, ◌-◌, ◌^◌, ◌≤◌, Bool, true, false, eqb, ◌&&◌, List, map, Option, refl, sym, ap, ◌∙◌, arith, rules, pow_pos}
 use Rattle.std.specs.List.{list_all}
-use Rattle.lg_verilog.specs.declared.expr.Expr.{Expr}
-use Rattle.lg_verilog.specs.declared.expr.Expr.TheOpen.{Expr-F}
-use Rattle.lg_verilog.specs.declared.expr.Expr.TheVariants.{rolls-Item, rolls-Join}
-use Rattle.lg_verilog.specs.declared.expr.Expr.TheVariants as expr
+use Rattle.lg_vtree.specs.declared.expr.Expr.{Expr}
+use Rattle.lg_vtree.specs.declared.expr.Expr.TheOpen.{Expr-F}
+use Rattle.lg_vtree.specs.declared.expr.Expr.TheVariants.{rolls-Item, rolls-Join}
+use Rattle.lg_vtree.specs.declared.expr.Expr.TheVariants as expr
 use Rattle.lg_vrules.specs.declared.names.Sort.{Sort}
 use Rattle.lg_vrules.specs.Rules.{width_from, index_fits, indexes, all_index}
 use Rattle.lg_vrules.proofs.InsideLemmas.{inside-roll}

@@ -1,9 +1,9 @@
 -- What holds at each form inside an expression, form by form.
 use Rattle.std.proofs.Common.{◌≡◌, ℕ, zero, suc, ◌≤◌, Bool, ◌&&◌, List, [], ◌∷◌, map, refl, sym, ap, subst, ◌∙◌, arith}
-use Rattle.lg_verilog.specs.declared.expr.Expr.{Expr, roll-Expr, out-Expr, roll-out-Expr}
-use Rattle.lg_verilog.specs.declared.expr.Expr.TheFolds.{map-Expr, fold-roll-Expr}
-use Rattle.lg_verilog.specs.declared.expr.Expr.TheOpen.{Expr-F}
-use Rattle.lg_verilog.specs.Depth.{greatest, form_depth, depth}
+use Rattle.lg_vtree.specs.declared.expr.Expr.{Expr, roll-Expr, out-Expr, roll-out-Expr}
+use Rattle.lg_vtree.specs.declared.expr.Expr.TheFolds.{map-Expr, fold-roll-Expr}
+use Rattle.lg_vtree.specs.declared.expr.Expr.TheOpen.{Expr-F}
+use Rattle.lg_vtree.specs.Depth.{greatest, form_depth, depth}
 use Rattle.lg_vrules.specs.Inside.{all_pass, form_inside, folded, holds_inside}
 
 map_map : {A B C : Type 0} (g : B → C) (h : A → B) (xs : List A) → map g (map h xs) ≡ map (λ x. g (h x)) xs

@@ -2,11 +2,11 @@
 use Rattle.std.proofs.Common.{◌≡◌, ℕ, ◌+◌, ◌*◌, ◌/◌, ◌^◌, ◌<◌, ◌≤◌, nat_eq, nat_lt, Bool, true, false, rules, arith, pow_pos, List, ◌∷◌, map, Option, Some, refl, sym, ap, ◌∙◌}
 use native.Mathlib.Nat.{div-lt_iff_lt-mul}
 use Rattle.std.specs.Prelude.{option_and_then}
-use Rattle.lg_verilog.specs.declared.expr.Expr.{Expr, fold-Expr}
-use Rattle.lg_verilog.specs.declared.expr.Expr.TheFolds.{fold-roll-Expr}
-use Rattle.lg_verilog.specs.declared.expr.Expr.TheOpen.{Expr-F}
-use Rattle.lg_verilog.specs.declared.expr.Expr.TheVariants.{rolls-Join}
-use Rattle.lg_verilog.specs.declared.expr.Expr.TheVariants as expr
+use Rattle.lg_vtree.specs.declared.expr.Expr.{Expr, fold-Expr}
+use Rattle.lg_vtree.specs.declared.expr.Expr.TheFolds.{fold-roll-Expr}
+use Rattle.lg_vtree.specs.declared.expr.Expr.TheOpen.{Expr-F}
+use Rattle.lg_vtree.specs.declared.expr.Expr.TheVariants.{rolls-Join}
+use Rattle.lg_vtree.specs.declared.expr.Expr.TheVariants as expr
 use Rattle.lg_vrules.specs.Rules.{form_width, expr_width, sum_of, at_most_128}
 
 pub width-Join : (width : List ℕ → ℕ) (a b : Expr) (more : List Expr)

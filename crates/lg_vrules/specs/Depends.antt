@@ -2,10 +2,10 @@
 -- Source: IEEE 1364-2005, 6.1 (continuous assignments).
 use Rattle.std.specs.Prelude.{◌≡◌, ℕ, ◌<◌, List, [], ◌∷◌, ◌++◌, slice_get, Some, Contains}
 use Rattle.std.specs.List.{flat_map}
-use Rattle.lg_verilog.specs.declared.module.Assign.{Assign}
-use Rattle.lg_verilog.specs.declared.module.Module.{Module}
-use Rattle.lg_verilog.specs.declared.expr.Expr.{Expr, fold-Expr}
-use Rattle.lg_verilog.specs.declared.expr.Expr.TheOpen.{Expr-F}
+use Rattle.lg_vtree.specs.declared.module.Assign.{Assign}
+use Rattle.lg_vtree.specs.declared.module.Module.{Module}
+use Rattle.lg_vtree.specs.declared.expr.Expr.{Expr, fold-Expr}
+use Rattle.lg_vtree.specs.declared.expr.Expr.TheOpen.{Expr-F}
 
 -- the names that an expression reads numbers of, in order; of a word of a memory those of its index
 abbrev pub form_names : Expr-F (List (List ℕ)) → List (List ℕ)

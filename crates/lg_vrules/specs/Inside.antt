@@ -1,9 +1,9 @@
 -- What holds at each form inside an expression, the whole one too.
 use Rattle.std.specs.Prelude.{Bool, true, ◌&&◌}
 use Rattle.std.specs.List.{list_all}
-use Rattle.lg_verilog.specs.declared.expr.Expr.{Expr, fold-Expr, roll-Expr}
-use Rattle.lg_verilog.specs.declared.expr.Expr.TheFolds.{map-Expr}
-use Rattle.lg_verilog.specs.declared.expr.Expr.TheOpen.{Expr-F}
+use Rattle.lg_vtree.specs.declared.expr.Expr.{Expr, fold-Expr, roll-Expr}
+use Rattle.lg_vtree.specs.declared.expr.Expr.TheFolds.{map-Expr}
+use Rattle.lg_vtree.specs.declared.expr.Expr.TheOpen.{Expr-F}
 
 -- all of an expression's parts pass
 abbrev pub all_pass : Expr-F Bool → Bool

@@ -1,8 +1,8 @@
 -- The assigns of a module in an order in which each stands after those whose names it reads.
 -- Source: IEEE 1364-2005, 6.1 (continuous assignments).
 use Rattle.std.specs.Prelude.{◌≡◌, ℕ, ◌<◌, List, length, slice_get, slice_index, Some, Contains}
-use Rattle.lg_verilog.specs.declared.module.Assign.{Assign}
-use Rattle.lg_verilog.specs.declared.module.Module.{Module}
+use Rattle.lg_vtree.specs.declared.module.Assign.{Assign}
+use Rattle.lg_vtree.specs.declared.module.Module.{Module}
 use Rattle.lg_vrules.specs.declared.depends.Dependence.{Dependence}
 use Rattle.lg_vrules.specs.declared.depends.Dependence.TheVariants.{Ordered, Cyclic}
 use Rattle.lg_vrules.specs.Depends.{names_read, IsAcyclic, IsFirstCyclic}

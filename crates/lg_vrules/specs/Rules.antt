@@ -3,23 +3,23 @@
 use Rattle.std.specs.Prelude.{ℕ, zero, suc, sum_by, ◌+◌, ◌-◌, ◌^◌, ◌==◌, nat_le, nat_lt, Bool, true, false, not, ◌&&◌, ◌||◌, List, [], ◌∷◌, map, length, take, Option, Some, None, option_map, option_and_then, unwrap_or, is_some, codes, if◌then◌else◌}
 use Rattle.std.specs.List.{list_all, list_any}
 use Rattle.std.specs.Str.{bytes_eq}
-use Rattle.lg_verilog.specs.declared.module.Port.{Port}
-use Rattle.lg_verilog.specs.declared.module.Fill.{Fill}
-use Rattle.lg_verilog.specs.declared.module.Word.{Word}
-use Rattle.lg_verilog.specs.declared.module.Init.{Init}
-use Rattle.lg_verilog.specs.declared.module.Decl.{Decl}
-use Rattle.lg_verilog.specs.declared.module.Decl.TheVariants as decl
-use Rattle.lg_verilog.specs.declared.module.Assign.{Assign}
-use Rattle.lg_verilog.specs.declared.module.Stmt.{Stmt}
-use Rattle.lg_verilog.specs.declared.module.Stmt.TheVariants as stmt
-use Rattle.lg_verilog.specs.declared.module.Edge.{Edge}
-use Rattle.lg_verilog.specs.declared.module.Module.{Module}
-use Rattle.lg_verilog.specs.declared.expr.Constant.{Constant}
-use Rattle.lg_verilog.specs.declared.expr.Operator.{Operator}
-use Rattle.lg_verilog.specs.declared.expr.Operator.TheVariants as operator
-use Rattle.lg_verilog.specs.declared.expr.Expr.{Expr, fold-Expr, out-Expr}
-use Rattle.lg_verilog.specs.declared.expr.Expr.TheOpen.{Expr-F}
-use Rattle.lg_verilog.specs.Printed.{operator_text}
+use Rattle.lg_vtree.specs.declared.module.Port.{Port}
+use Rattle.lg_vtree.specs.declared.module.Fill.{Fill}
+use Rattle.lg_vtree.specs.declared.module.Word.{Word}
+use Rattle.lg_vtree.specs.declared.module.Init.{Init}
+use Rattle.lg_vtree.specs.declared.module.Decl.{Decl}
+use Rattle.lg_vtree.specs.declared.module.Decl.TheVariants as decl
+use Rattle.lg_vtree.specs.declared.module.Assign.{Assign}
+use Rattle.lg_vtree.specs.declared.module.Stmt.{Stmt}
+use Rattle.lg_vtree.specs.declared.module.Stmt.TheVariants as stmt
+use Rattle.lg_vtree.specs.declared.module.Edge.{Edge}
+use Rattle.lg_vtree.specs.declared.module.Module.{Module}
+use Rattle.lg_vtree.specs.declared.expr.Constant.{Constant}
+use Rattle.lg_vtree.specs.declared.expr.Operator.{Operator}
+use Rattle.lg_vtree.specs.declared.expr.Operator.TheVariants as operator
+use Rattle.lg_vtree.specs.declared.expr.Expr.{Expr, fold-Expr, out-Expr}
+use Rattle.lg_vtree.specs.declared.expr.Expr.TheOpen.{Expr-F}
+use Rattle.lg_vtree.specs.Printed.{operator_text}
 use Rattle.lg_vrules.specs.declared.names.Sort.{Sort}
 use Rattle.lg_vrules.specs.declared.names.Sort.TheVariants as sort
 use Rattle.lg_vrules.specs.declared.names.Thing.{Thing}

@@ -3,12 +3,12 @@
 use Rattle.std.specs.Prelude.{ℕ, ◌+◌, Bool, true, false, List, ◌++◌, map, filter, Option, Some, None, option_map, unwrap_or, codes, if◌then◌else◌}
 use Rattle.std.specs.Map.{lookup}
 use Rattle.std.specs.Str.{bytes_eq}
-use Rattle.lg_verilog.specs.declared.module.Direction.{Direction}
-use Rattle.lg_verilog.specs.declared.module.Direction.TheVariants.{Input as input, Output as output}
-use Rattle.lg_verilog.specs.declared.module.Port.{Port}
-use Rattle.lg_verilog.specs.declared.module.Decl.{Decl}
-use Rattle.lg_verilog.specs.declared.module.Decl.TheVariants as decl
-use Rattle.lg_verilog.specs.declared.module.Module.{Module}
+use Rattle.lg_vtree.specs.declared.module.Direction.{Direction}
+use Rattle.lg_vtree.specs.declared.module.Direction.TheVariants.{Input as input, Output as output}
+use Rattle.lg_vtree.specs.declared.module.Port.{Port}
+use Rattle.lg_vtree.specs.declared.module.Decl.{Decl}
+use Rattle.lg_vtree.specs.declared.module.Decl.TheVariants as decl
+use Rattle.lg_vtree.specs.declared.module.Module.{Module}
 use Rattle.lg_vrules.specs.declared.names.Sort.{Sort}
 use Rattle.lg_vrules.specs.declared.names.Sort.TheVariants as sort
 use Rattle.lg_vrules.specs.declared.names.Thing.{Thing}

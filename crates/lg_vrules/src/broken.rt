@@ -10,7 +10,7 @@ use crate::divisors::are_divided_safely;
 use crate::fault::{Memory, RuleFault};
 use crate::names::Names;
 use crate::rules::{are_narrow, ports_are_named};
-use lg_verilog::Module;
+use lg_vtree::Module;
 use std::alloc::Global;
 
 /// What the names of a module stand for, where it keeps the seven rules; else the first rule that it breaks.

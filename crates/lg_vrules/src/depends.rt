@@ -11,7 +11,7 @@ use crate::fault::Memory;
 use crate::once::assigned_names;
 use crate::places::Places;
 use lg_graph::sort;
-use lg_verilog::{Assign, Expr, Module, Name};
+use lg_vtree::{Assign, Expr, Module, Name};
 use sqlite_items::Items;
 use std::alloc::{AllocError, Global};
 

@@ -2,12 +2,12 @@
 
 ghost use Rattle.std.specs.Prelude.{◌≡◌, ◌||◌, ◌&&◌, not, map};
 ghost use Rattle.std.specs.List.{list_all};
-ghost use Rattle.lg_verilog.specs.declared.expr.Expr.{out-Expr};
+ghost use Rattle.lg_vtree.specs.declared.expr.Expr.{out-Expr};
 ghost use Rattle.lg_vrules.specs.Rules.{same, same_each, is_number, is_equality, is_zero_test, is_divisor, is_division, divides_safely, stmt_divides_safely, are_divided_safely};
 ghost use Rattle.lg_vrules.specs.Inside.{holds_inside};
 
 use crate::rules::stmts;
-use lg_verilog::{Assign, Expr, Module, Operator, Stmt};
+use lg_vtree::{Assign, Expr, Module, Operator, Stmt};
 
 /// Whether each division in a module is by a divisor that is never 0.
 pub fn are_divided_safely(module: &Module) -> bool

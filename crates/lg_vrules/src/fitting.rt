@@ -8,7 +8,7 @@ ghost use Rattle.lg_vrules.specs.Rules.{expr_width, is_width, constant_of, decl_
 use crate::names::{Names, Sort};
 use crate::rules::{fills, stmts, words};
 use crate::widths::constant_fits;
-use lg_verilog::{Assign, Constant, Decl, Expr, Fill, Module, Name, Stmt, Word};
+use lg_vtree::{Assign, Constant, Decl, Expr, Fill, Module, Name, Stmt, Word};
 
 impl Names {
     /// Whether all widths and places of a module fit.

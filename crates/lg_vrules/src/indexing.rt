@@ -7,7 +7,7 @@ ghost use Rattle.lg_vrules.specs.Rules.{index_width, is_index, indexes, all_inde
 
 use crate::names::Names;
 use crate::rules::stmts;
-use lg_verilog::{Assign, Decl, Expr, Module, Name, Stmt};
+use lg_vtree::{Assign, Decl, Expr, Module, Name, Stmt};
 
 /// How many words all memories of a module have at most, together.
 pub const MOST_WORDS: u128 = 1_048_576;

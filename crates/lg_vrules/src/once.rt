@@ -10,7 +10,7 @@ use crate::fault::Memory;
 use crate::name_set::NameSet;
 use crate::names::{Names, Sort, sort_of_port, thing_of_decl};
 use crate::rules::{fills, stmts};
-use lg_verilog::{Assign, Decl, Fill, Module, Name, Port, Stmt};
+use lg_vtree::{Assign, Decl, Fill, Module, Name, Port, Stmt};
 use std::alloc::Global;
 
 /// What a line of a module gives its numbers: an `assign`, a statement or a fill.

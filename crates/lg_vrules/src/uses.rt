@@ -8,7 +8,7 @@ ghost use Rattle.lg_vrules.specs.Rules.{is_of, reads_declared, is_target, stmt_u
 
 use crate::names::{Names, Sort, thing_of_decl};
 use crate::rules::{fills, stmts, words};
-use lg_verilog::{Assign, Decl, Expr, Fill, Module, Name, Stmt, Word};
+use lg_vtree::{Assign, Decl, Expr, Fill, Module, Name, Stmt, Word};
 
 impl Names {
     /// Whether an expression reads only what has a number, and words of memories.

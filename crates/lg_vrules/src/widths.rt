@@ -5,7 +5,7 @@ ghost use Rattle.lg_vrules.specs.Known.{width_under, AreNarrow};
 ghost use Rattle.lg_vrules.specs.Rules.{operator_width, constant_fits, constant_width, place_width, part_width, at_most_128, is_shift, binary_width, choice_width, sum_of, expr_width};
 
 use crate::names::Names;
-use lg_verilog::{Constant, Expr, Name, Operator};
+use lg_vtree::{Constant, Expr, Name, Operator};
 
 /// How many bits a wire, a register or an expression has at most.
 pub const GREATEST_WIDTH: u128 = 128;

@@ -1,6 +1,6 @@
 -- An accepted netlist can be laid out, and its module agrees with it.
 use Rattle.std.proofs.Common.{refl, sym, subst}
-use Rattle.lg_verilog.specs.declared.module.Module.{Module}
+use Rattle.lg_vtree.specs.declared.module.Module.{Module}
 use Rattle.lg_export.specs.Agreement.{Agrees}
 use Rattle.lg_export.specs.InTime.{AgreesInTime}
 use Rattle.lg_export.proofs.Accepted.{CanBeLaidOut-accepted}

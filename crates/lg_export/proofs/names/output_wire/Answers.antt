@@ -1,6 +1,6 @@
 -- A wire's name is a name of the subset.
 use Rattle.std.proofs.Common.{◌∙◌, ap, refl}
-use Rattle.lg_verilog.specs.Token.{is_name}
+use Rattle.lg_vtree.specs.Token.{is_name}
 use Rattle.lg_export.proofs.NameLemmas.{is_name-wire}
 use Rattle.lg_export.proofs.names.output_wire.Goals as goal
 

@@ -1,5 +1,5 @@
 use Rattle.std.proofs.Common.{◌≡◌, fold}
-use Rattle.lg_verilog.specs.declared.expr.Expr.TheVariants.{Binary}
+use Rattle.lg_vtree.specs.declared.expr.Expr.TheVariants.{Binary}
 use Rattle.lg_export.specs.Layout.{first_of}
 use Rattle.lg_export.proofs.parts.joined.Given as goal
 

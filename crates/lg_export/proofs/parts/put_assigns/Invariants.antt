@@ -1,5 +1,5 @@
 use Rattle.std.proofs.Common.{◌≡◌, ◌++◌, map, drop}
-use Rattle.lg_verilog.specs.declared.expr.Expr.TheVariants.{Whole}
+use Rattle.lg_vtree.specs.declared.expr.Expr.TheVariants.{Whole}
 use Rattle.lg_export.specs.Layout.{input_wire, bits_value, attached}
 use Rattle.lg_export.proofs.LayoutLemmas.{attached_from}
 use Rattle.lg_export.proofs.parts.put_assigns.Given as goal

@@ -1,7 +1,7 @@
 use Rattle.std.proofs.Common.{◌≡◌, ◌++◌, map, drop}
 use Rattle.std.specs.List.{enumerate_from}
 use Rattle.lg_netlist.specs.Cell.{input_width, output_width}
-use Rattle.lg_verilog.specs.declared.module.Decl.TheVariants as decl
+use Rattle.lg_vtree.specs.declared.module.Decl.TheVariants as decl
 use Rattle.lg_export.specs.Layout.{input_wire, output_wire, range_of, numbered, part_decls}
 use Rattle.lg_export.proofs.LayoutLemmas.{attached_from}
 use Rattle.lg_export.proofs.parts.put_decls.Given as goal

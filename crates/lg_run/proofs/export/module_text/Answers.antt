@@ -6,9 +6,9 @@ use Rattle.lg_export.specs.Agreement.{Agrees}
 use Rattle.lg_export.specs.InTime.{AgreesInTime}
 use Rattle.lg_export.specs.Layout.{module_of}
 use Rattle.lg_netlist.specs.declared.netlist.Netlist.{Netlist}
-use Rattle.lg_verilog.specs.declared.module.Module.{Module}
-use Rattle.lg_verilog.specs.Grammar.{IsModuleText as IsTextOf}
-use Rattle.lg_verilog.specs.Printed.{module_text}
+use Rattle.lg_vtree.specs.declared.module.Module.{Module}
+use Rattle.lg_vtree.specs.Grammar.{IsModuleText as IsTextOf}
+use Rattle.lg_vtree.specs.Printed.{module_text}
 use Rattle.lg_run.specs.OneSheet.{IsBuilt}
 use Rattle.lg_run.proofs.Making.{Makes-circ, Makes-early, Makes-not_accepted}
 use Rattle.lg_run.proofs.export.module_text.Goals as goal

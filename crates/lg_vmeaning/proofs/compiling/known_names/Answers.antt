@@ -2,7 +2,7 @@ use Rattle.std.proofs.Common.{◌≡◌, ℕ, List, [], ◌∷◌, ◌++◌, map
 use Rattle.std.specs.Prelude.{filter_map, slice_get}
 use Rattle.std.proofs.lemmas.List.{map-append}
 use Rattle.std.proofs.lemmas.Option.{slice_get-get_or}
-use Rattle.lg_verilog.specs.declared.module.Assign.{Assign}
+use Rattle.lg_vtree.specs.declared.module.Assign.{Assign}
 use Rattle.lg_vmeaning.specs.declared.ports.PortLine.{PortLine}
 use Rattle.lg_vmeaning.proofs.CompiledLemmas.{texts, ordered_more}
 use Rattle.lg_vmeaning.proofs.compiling.known_names.Goals as goal

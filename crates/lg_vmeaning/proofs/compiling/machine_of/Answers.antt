@@ -2,7 +2,7 @@ use Rattle.std.proofs.Common.{◌≡◌, ℕ, List, map, ap, subst, ◌∙◌}
 use Rattle.lg_vrules.specs.Rules.{all_differ, stored, stored_name}
 use Rattle.lg_vrules.specs.Places.{KnowsPlaces}
 use Rattle.lg_vrules.specs.Things.{names_of, is_reg, is_memory}
-use Rattle.lg_verilog.specs.declared.module.Stmt.{Stmt}
+use Rattle.lg_vtree.specs.declared.module.Stmt.{Stmt}
 use Rattle.lg_vmeaning.specs.Compiled.{known}
 use Rattle.lg_vmeaning.proofs.RunLemmas.{known_differ}
 use Rattle.lg_vmeaning.proofs.WordLemmas.{memories_differ}

@@ -1,6 +1,6 @@
 use Rattle.std.proofs.Common.{◌≡◌, List, length, map, take, sym, ap, ◌∙◌, arith}
 use Rattle.std.proofs.SliceLists.{take_long}
-use Rattle.lg_verilog.specs.declared.module.Decl.{Decl}
+use Rattle.lg_vtree.specs.declared.module.Decl.{Decl}
 use Rattle.lg_vrules.specs.Things.{decl_thing}
 use Rattle.lg_vmeaning.specs.Ports.{is_kept_as}
 use Rattle.lg_vmeaning.proofs.NameLemmas.{names_in}

@@ -1,6 +1,6 @@
 use Rattle.std.proofs.Common.{◌≡◌, List, length, map, take, sym, ap, ◌∙◌, arith}
 use Rattle.std.proofs.SliceLists.{take_long}
-use Rattle.lg_verilog.specs.declared.module.Port.{Port}
+use Rattle.lg_vtree.specs.declared.module.Port.{Port}
 use Rattle.lg_vrules.specs.Things.{port_thing}
 use Rattle.lg_vmeaning.specs.Ports.{is_going, port_line}
 use Rattle.lg_vmeaning.proofs.NameLemmas.{lines_in}

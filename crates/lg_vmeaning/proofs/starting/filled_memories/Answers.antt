@@ -1,9 +1,9 @@
 use Rattle.std.proofs.Common.{◌≡◌, ℕ, ◌+◌, ◌<◌, List, [], ◌∷◌, ◌++◌, length, map, get_or, Vec, Global, Bor, Option, None, refl, sym, ap, subst, ◌∙◌, arith}
 use Rattle.std.specs.Prelude.{replicate}
-use Rattle.lg_verilog.specs.declared.module.Decl.{Decl}
-use Rattle.lg_verilog.specs.declared.module.Decl.TheVariants as decl
-use Rattle.lg_verilog.specs.declared.module.Fill.{Fill}
-use Rattle.lg_verilog.specs.declared.module.Module.{Module}
+use Rattle.lg_vtree.specs.declared.module.Decl.{Decl}
+use Rattle.lg_vtree.specs.declared.module.Decl.TheVariants as decl
+use Rattle.lg_vtree.specs.declared.module.Fill.{Fill}
+use Rattle.lg_vtree.specs.declared.module.Module.{Module}
 use Rattle.lg_vrules.specs.Places.{KnowsPlaces}
 use Rattle.lg_vrules.specs.Rules.{all_differ, filled, fills_of}
 use Rattle.lg_vmeaning.specs.Rows.{filled_with}

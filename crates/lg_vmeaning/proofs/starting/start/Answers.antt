@@ -1,5 +1,5 @@
 use Rattle.std.proofs.Common.{◌≡◌, ℕ, List, map, fold, filter_map, ap, subst, ◌∙◌, Bor}
-use Rattle.lg_verilog.specs.declared.module.Word.{Word}
+use Rattle.lg_vtree.specs.declared.module.Word.{Word}
 use Rattle.lg_vrules.specs.Things.{names_of, is_memory}
 use Rattle.lg_vrules.specs.Rules.{all_differ, words_of}
 use Rattle.lg_vrules.specs.Places.{KnowsPlaces}

@@ -1,7 +1,7 @@
 use Rattle.std.proofs.Common.{◌≡◌, ℕ, List, [], ◌∷◌, ◌++◌, Vec, Global, Option, None, refl, sym, ap, ◌∙◌}
-use Rattle.lg_verilog.specs.declared.expr.Constant.{Constant}
-use Rattle.lg_verilog.specs.declared.module.Decl.{Decl}
-use Rattle.lg_verilog.specs.declared.module.Decl.TheVariants as decl
+use Rattle.lg_vtree.specs.declared.expr.Constant.{Constant}
+use Rattle.lg_vtree.specs.declared.module.Decl.{Decl}
+use Rattle.lg_vtree.specs.declared.module.Decl.TheVariants as decl
 use Rattle.lg_vmeaning.specs.Rows.{start_number}
 use Rattle.lg_vmeaning.proofs.WordLemmas.{drawn_more, drawn_same}
 use Rattle.lg_vmeaning.proofs.starting.start_numbers.Goals as goal

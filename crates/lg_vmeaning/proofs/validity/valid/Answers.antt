@@ -1,7 +1,7 @@
 use Rattle.std.proofs.Common.{◌<◌, List, length, sym, ap, subst, ◌∙◌}
 use Rattle.std.specs.Prelude.{slice_get}
 use Rattle.std.proofs.lemmas.Option.{slice_get_within}
-use Rattle.lg_verilog.specs.declared.module.Assign.{Assign}
+use Rattle.lg_vtree.specs.declared.module.Assign.{Assign}
 use Rattle.lg_vrules.specs.Depends.{IsFirstCyclic}
 use Rattle.lg_vrules.specs.Order.{IsDependence}
 use Rattle.lg_vrules.proofs.RuleLemmas.{assigned_differ}

@@ -10,7 +10,7 @@ use Rattle.lg_vectors.specs.declared.pin.PinShape.{PinShape}
 use Rattle.lg_vectors.specs.Binding.{pin_names, AreBound, HaveColumns}
 use Rattle.lg_vectors.specs.CaredBits.{CaredBits}
 use Rattle.lg_vectors.specs.VectorText.{IsVectorText}
-use Rattle.lg_verilog.specs.declared.module.Module.{Module}
+use Rattle.lg_vtree.specs.declared.module.Module.{Module}
 use Rattle.lg_vrules.specs.Things.{lines_of, is_input, is_output}
 use Rattle.lg_vmeaning.specs.declared.ports.PortLine.{PortLine}
 use Rattle.lg_vmeaning.specs.Ports.{port_lines}

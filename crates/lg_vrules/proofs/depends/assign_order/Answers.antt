@@ -1,7 +1,7 @@
 use Rattle.std.proofs.Common.{◌≡◌, ℕ, true, List, None, map, sym, ap, subst, ◌∙◌, Bor}
 use Rattle.lg_graph.specs.Graph.{Graph, IsGraph, IsSorted}
-use Rattle.lg_verilog.specs.declared.module.Assign.{Assign}
-use Rattle.lg_verilog.specs.declared.module.Module.{Module}
+use Rattle.lg_vtree.specs.declared.module.Assign.{Assign}
+use Rattle.lg_vtree.specs.declared.module.Module.{Module}
 use Rattle.lg_vrules.specs.declared.places.Places.{Places}
 use Rattle.lg_vrules.specs.declared.depends.Dependence.TheVariants.{Ordered}
 use Rattle.lg_vrules.specs.Rules.{all_differ}

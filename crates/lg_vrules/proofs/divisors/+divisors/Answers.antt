@@ -1,7 +1,7 @@
 use Rattle.std.proofs.Common.{◌≡◌, Bool, ◌&&◌, ◌||◌, List, map, sym, ap, ◌∙◌}
 use Rattle.std.specs.Prelude.{not}
 use Rattle.std.specs.List.{list_all}
-use Rattle.lg_verilog.specs.declared.expr.Expr.{Expr, out-Expr}
+use Rattle.lg_vtree.specs.declared.expr.Expr.{Expr, out-Expr}
 use Rattle.lg_vrules.specs.Inside.{holds_inside}
 use Rattle.lg_vrules.specs.Rules.{divides_safely, is_division, is_divisor}
 use Rattle.lg_vrules.proofs.DivisorLemmas.{safely-Join, safely-Binary}

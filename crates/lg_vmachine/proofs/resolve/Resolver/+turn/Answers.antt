@@ -1,9 +1,9 @@
 use Rattle.std.proofs.Common.{◌≡◌, map, fold, IfOk, ℕ, List, Option, sym, ap, subst, ◌∙◌}
-use Rattle.lg_verilog.specs.declared.expr.Expr.{Expr}
-use Rattle.lg_verilog.specs.declared.expr.Expr.TheFolds.{fold-roll-Expr}
-use Rattle.lg_verilog.specs.declared.expr.Expr.TheOpen.{Expr-F}
-use Rattle.lg_verilog.specs.declared.expr.Expr.TheVariants.{rolls-Join}
-use Rattle.lg_verilog.specs.declared.expr.Expr.TheVariants as expr
+use Rattle.lg_vtree.specs.declared.expr.Expr.{Expr}
+use Rattle.lg_vtree.specs.declared.expr.Expr.TheFolds.{fold-roll-Expr}
+use Rattle.lg_vtree.specs.declared.expr.Expr.TheOpen.{Expr-F}
+use Rattle.lg_vtree.specs.declared.expr.Expr.TheVariants.{rolls-Join}
+use Rattle.lg_vtree.specs.declared.expr.Expr.TheVariants as expr
 use Rattle.lg_vrules.specs.Known.{width_under}
 use Rattle.lg_vrules.specs.Places.{place_under}
 use Rattle.lg_vmachine.specs.declared.resolve.Resolved.{Resolved}

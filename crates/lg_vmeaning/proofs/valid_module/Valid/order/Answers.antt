@@ -1,5 +1,5 @@
 use Rattle.std.proofs.Common.{subst}
-use Rattle.lg_verilog.specs.declared.module.Module.{Module}
+use Rattle.lg_vtree.specs.declared.module.Module.{Module}
 use Rattle.lg_vrules.specs.Things.{lines_of, is_input}
 use Rattle.lg_vmachine.specs.Meaning.{Valuation}
 use Rattle.lg_vmeaning.specs.Solution.{AreNumbers, IsOf, IsTheSolution}

@@ -1,6 +1,6 @@
 use Rattle.std.proofs.Common.{◌≡◌, IfOk, sym, subst}
 use Rattle.std.proofs.lemmas.Result.{IfOk-weaker}
-use Rattle.lg_verilog.specs.declared.module.Module.{Module}
+use Rattle.lg_vtree.specs.declared.module.Module.{Module}
 use Rattle.lg_vmeaning.specs.Rows.{start}
 use Rattle.lg_vmeaning.specs.Solution.{IsOf}
 use Rattle.lg_vmeaning.proofs.StartLemmas.{start_is_of}

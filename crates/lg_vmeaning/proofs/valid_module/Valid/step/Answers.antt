@@ -1,6 +1,6 @@
 use Rattle.std.proofs.Common.{ℕ, ◌<◌, ◌^◌, List, slice_index_or, sym, ap, subst, ◌∙◌}
 use Rattle.std.specs.Prelude.{All}
-use Rattle.lg_verilog.specs.declared.module.Module.{Module}
+use Rattle.lg_vtree.specs.declared.module.Module.{Module}
 use Rattle.lg_vmachine.specs.Machine.{stored_by}
 use Rattle.lg_vmeaning.specs.Compiled.{IsCompiled}
 use Rattle.lg_vmeaning.proofs.RowLemmas.{read_outputs, outputs_small, is_step}

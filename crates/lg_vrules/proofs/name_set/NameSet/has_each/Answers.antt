@@ -1,7 +1,7 @@
 use Rattle.std.proofs.Common.{◌≡◌, Bool, true, false, ◌&&◌, sym, ap, ◌∙◌}
 use Rattle.std.specs.List.{list_all}
-use Rattle.lg_verilog.specs.declared.module.Port.{Port}
-use Rattle.lg_verilog.specs.declared.module.Decl.{Decl}
+use Rattle.lg_vtree.specs.declared.module.Port.{Port}
+use Rattle.lg_vtree.specs.declared.module.Decl.{Decl}
 use Rattle.lg_vrules.specs.Things.{port_thing, decl_thing}
 use Rattle.lg_vrules.specs.Known.{holds, is_role}
 use Rattle.lg_vrules.proofs.OnceLemmas.{holds_thing, all_ports, all_decls, has_each-parts}

@@ -1,6 +1,6 @@
 use Rattle.std.proofs.Common.{◌≡◌, Bool, ◌&&◌, List, map, sym, ap, ◌∙◌}
 use Rattle.std.specs.List.{list_all}
-use Rattle.lg_verilog.specs.declared.expr.Expr.{Expr}
+use Rattle.lg_vtree.specs.declared.expr.Expr.{Expr}
 use Rattle.lg_vrules.specs.Known.{sort_under, width_under}
 use Rattle.lg_vrules.specs.Rules.{indexes, all_index}
 use Rattle.lg_vrules.proofs.IndexWidthLemmas.{index-Item, index-Join}

@@ -1,8 +1,8 @@
 use Rattle.std.proofs.Common.{◌≡◌, ◌<◌, ◌+◌, ℕ, true, false, List, [], ◌∷◌, ◌++◌, map, take, drop, length, get_or, take-append-drop, append-nil, arith, sym, ap, subst, ◌∙◌, append_assoc}
 use Rattle.std.proofs.lemmas.List.{map_more, map-append}
 use Rattle.std.proofs.SliceLists.{take_long}
-use Rattle.lg_verilog.specs.declared.module.Port.{Port}
-use Rattle.lg_verilog.specs.declared.module.Decl.{Decl}
+use Rattle.lg_vtree.specs.declared.module.Port.{Port}
+use Rattle.lg_vtree.specs.declared.module.Decl.{Decl}
 use Rattle.lg_vrules.specs.declared.names.Thing.{Thing}
 use Rattle.lg_vrules.specs.Rules.{all_differ}
 use Rattle.lg_vrules.specs.Known.{KnowsThings, Adds}

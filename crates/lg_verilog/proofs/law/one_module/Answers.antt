@@ -1,5 +1,0 @@
-use Rattle.lg_verilog.proofs.Texts.{one_module_lem}
-use Rattle.lg_verilog.proofs.law.one_module.Goals as goal
-
-pub returns : goal.returns
-returns c = one_module_lem

@@ -1,0 +1,14 @@
+pub mod Steps
+pub mod Exprs
+pub mod Declarations
+pub mod Modules
+pub mod Safe
+pub mod Numbers
+pub mod Lexemes
+pub mod Texts
+pub mod Limits
+pub mod Cutting
+pub mod Taking
+pub mod Signs
+pub mod Many
+pub mod Shorter

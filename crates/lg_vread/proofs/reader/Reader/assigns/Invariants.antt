@@ -1,0 +1,12 @@
+use Rattle.std.proofs.Common.{length}
+use Rattle.std.specs.Prelude.{codes}
+use Rattle.lg_vread.specs.Lexing.{left}
+use Rattle.lg_vread.specs.Reading.{all_at, is_at, assign_at}
+use Rattle.lg_vread.proofs.Many.{IsPartway}
+use Rattle.lg_vread.proofs.reader.Reader.assigns.Given as goal
+
+abbrev pub invariant-loop-alloc : goal.invariant-loop-alloc
+invariant-loop-alloc l = IsPartway (is_at (codes "assign")) (assign_at l.depth) (all_at (is_at (codes "assign")) (assign_at l.fn.depth) (left l.fn.self)) l.assigns (left l.self)
+
+abbrev pub decreases-loop-alloc : goal.decreases-loop-alloc
+decreases-loop-alloc l = length (left l.self)

@@ -1,0 +1,11 @@
+use Rattle.std.proofs.Common.{length}
+use Rattle.lg_vread.specs.Lexing.{left}
+use Rattle.lg_vread.specs.Reading.{all_at, goes_on, stmt_at}
+use Rattle.lg_vread.proofs.Many.{IsPartway}
+use Rattle.lg_vread.proofs.reader.Reader.stmts.Given as goal
+
+abbrev pub invariant-loop-alloc : goal.invariant-loop-alloc
+invariant-loop-alloc l = IsPartway goes_on (stmt_at l.depth) (all_at goes_on (stmt_at l.fn.depth) (left l.fn.self)) l.stmts (left l.self)
+
+abbrev pub decreases-loop-alloc : goal.decreases-loop-alloc
+decreases-loop-alloc l = length (left l.self)

@@ -1,0 +1,4 @@
+pub mod Token
+pub mod Printed
+pub mod Grammar
+pub mod Depth
