@@ -2,6 +2,7 @@
 #![tactic(auto)]
 
 mod bit;
+mod planes;
 #[cfg(test)]
 mod tests;
 mod word;
