@@ -14,7 +14,8 @@ each_bit test = test Zero && (test One && (test Unknown && test Error))
 abbrev pub each_bool : (Bool → Bool) → Bool
 each_bool test = test true && test false
 
-both : (p q : Bool) → (p && q) ≡ true → (p ≡ true) × (q ≡ true)
+-- both of two tests passed
+pub both : (p q : Bool) → (p && q) ≡ true → (p ≡ true) × (q ≡ true)
 both true true h = (refl, refl)
 both true false h = (refl, h)
 both false q h = absurd (cc h)

@@ -3,14 +3,12 @@ use Rattle.std.proofs.Common.{◌≡◌, ℕ, zero, suc, ◌+◌, ◌*◌, ◌/�
 use Rattle.std.specs.Bool.{Decides}
 use Rattle.std.specs.List.{All, AllByRecursion, fold, enumerate_from, range_with_len, sum_by}
 use Rattle.std.specs.Int.{bit_at}
-use Rattle.std.proofs.Math.Nat.{pow-succ', mod-eq_of_lt, mul_comm, mul-le-mul_right}
+use Rattle.std.proofs.Math.Nat.{pow-succ', mul_comm}
 use Rattle.std.proofs.Math.Arith.{mod-mul}
-use Rattle.std.proofs.Math.Numerals.{add-one}
-use Rattle.std.proofs.Math.Pow.{pow_mono}
-use Rattle.std.proofs.lemmas.Nat.{pow_below, pow_pos}
-use Rattle.std.proofs.lemmas.List.{take_more, take_all, get_or-replicate, length-replicate}
+use Rattle.std.proofs.lemmas.Nat.{pow_pos}
+use Rattle.std.proofs.lemmas.List.{take_more, get_or-replicate, length-replicate}
 use Rattle.std.proofs.lemmas.List.Elements.{recursion_from_All, All-head, All-tail, All-map}
-use Rattle.std.proofs.lemmas.List.FromFn.{length-map-range_with_len, map-range_with_len_more}
+use Rattle.std.proofs.lemmas.List.FromFn.{get_or-map-range_with_len, length-map-range_with_len, map-range_with_len_more}
 use Rattle.std.proofs.lemmas.List.Sums.{sum_by-cons}
 use Rattle.std.proofs.lemmas.Nat.Bits.{bit_at_lowest, bit_at-suc, bit_at-lt}
 use Rattle.std.proofs.lemmas.Slice.Eq.{slice_eq-Decides}
@@ -134,6 +132,12 @@ number_of-word_of_number (suc width) n =
     rw (word_of_number-suc width n, number_of-cons (bit_of_number n 0) (word_of_number width (n / 2)), lowest, pow-succ' 2 width)
     (halves n (number_of (word_of_number width (n / 2))) (2 ^ width) (pow_pos width) (number_of-word_of_number width (n / 2)))
 
+-- the bit at a place of a number's word
+pub get_or-word_of_number : (width n i : ℕ) (d : Bit) → i < width → get_or (word_of_number width n) i d ≡ bit_of_number n i
+unfolding word_of_number
+get_or-word_of_number width n i d inside =
+    get_or-map-range_with_len (bit_of_number n) 0 width i i d inside (omega arith)
+
 bit_of_number_is : (n place : ℕ) → (bit_of_number n place ≡ Zero) ⊎ (bit_of_number n place ≡ One)
 bit_of_number_is n place =
     elim (eqb (bit_at n place) 1) as (λ b. (cond b One Zero ≡ Zero) ⊎ (cond b One Zero ≡ One)) [ true ↦ inr refl | false ↦ inl refl ]
@@ -165,34 +169,6 @@ word_of_number-number_of (b ∷ rest) h =
     let high = All-tail (λ x. (x ≡ Zero) ⊎ (x ≡ One)) b rest h in
     rw (number_of-cons b rest, word_of_number-suc (length rest) (digit_of b + 2 * number_of rest), half_again b (number_of rest), bit_again b (number_of rest) low, word_of_number-number_of rest high)
     refl
-
-below_top : (digit i : ℕ) → digit ≤ 1 → i < 64 → digit * 2 ^ i < 2 ^ 64
-below_top digit i small inside = omega (arith, pow_below i 64 inside, mul-le-mul_right (2 ^ i) small)
-
--- the step of a loop that adds a word up
-pub number_of_step : (word : List Bit) (i total digit : ℕ) (d : Bit) → i < length word → length word ≤ 64 → digit ≡ digit_of (get_or word i d) → total ≡ number_of (take i word) → (total + digit * 2 ^ i % 2 ^ 64 ≡ number_of (take (i + 1) word)) × (number_of (take (i + 1) word) < 2 ^ 64)
-number_of_step word i total digit d inside short read so_far =
-    let small : digit ≤ 1 = omega (arith, read, digit_of-le (get_or word i d)) in
-    let whole : digit * 2 ^ i % 2 ^ 64 ≡ digit * 2 ^ i = mod-eq_of_lt (below_top digit i small (omega arith)) in
-    let more : number_of (take (i + 1) word) ≡ number_of (take i word) + digit * 2 ^ i =
-    rw read (number_of_more word i d inside) in
-    let low : length (take (i + 1) word) ≡ i + 1 = length-take-le (i + 1) word (omega arith) in
-    let bound : number_of (take (i + 1) word) < 2 ^ (i + 1) = rw low at (number_of-lt (take (i + 1) word)) in
-    let top : 2 ^ (i + 1) ≤ 2 ^ 64 = pow_mono {i = i + 1} {j = 64} (omega arith) in
-    (rw whole (omega arith), omega arith)
-
--- the end of that loop
-pub number_of_all : (word : List Bit) (i total : ℕ) → length word ≤ i → total ≡ number_of (take i word) → total ≡ number_of word
-number_of_all word i total past so_far = so_far ∙ ap number_of (take_all i word past)
-
-pub join_words_more : (a b : List Bit) (i : ℕ) (d e : Bit) → i < length a → i < length b → join_words (take (i + 1) a) (take (i + 1) b) ≡ join_words (take i a) (take i b) ++ join_bits (get_or a i d) (get_or b i e) ∷ []
-join_words_more [] b i d e h k = absurd (omega (arith, h))
-join_words_more (x ∷ a) [] i d e h k = absurd (omega (arith, k))
-join_words_more (x ∷ a) (y ∷ b) zero d e h k = refl
-join_words_more (x ∷ a) (y ∷ b) (suc i) d e h k =
-    let rest : join_words (take (i + 1) a) (take (i + 1) b) ≡ join_words (take i a) (take i b) ++ join_bits (get_or a i d) (get_or b i e) ∷ [] =
-    join_words_more a b i d e (omega (arith, h)) (omega (arith, k)) in
-    rw add-one (ap (λ w. join_bits x y ∷ w) (rw add-one at rest))
 
 -- the bit of the join at a place
 pub get_or-join_words : (a b : List Bit) (i : ℕ) (d : Bit) → i < length a → i < length b → get_or (join_words a b) i d ≡ join_bits (get_or a i d) (get_or b i d)

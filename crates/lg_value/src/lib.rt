@@ -2,6 +2,7 @@
 #![tactic(auto)]
 
 mod bit;
+mod planes;
 mod word;
 
 pub use crate::bit::{Bit, join_bits};

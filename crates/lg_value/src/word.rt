@@ -3,38 +3,44 @@
 ghost use Rattle.std.specs.Prelude.{◌≡◌, ◌+◌, ◌%◌, ◌^◌, ◌<◌, ◌≤◌, ◌↔◌, ◌++◌, length, replicate, take, drop, slice_get, slice_set, IsTrue, Some};
 ghost use Rattle.std.specs.Cmp.{partial_equiv_from_equiv};
 ghost use Rattle.std.proofs.lemmas.Cmp.{lists_equiv};
-ghost use Rattle.lg_value.specs.Bit.{digit_of, same_bit_equiv};
-ghost use Rattle.lg_value.specs.Word.{IsWidth, IsDefined, same_word, join_words, number_of, bit_of_number, word_of_number};
+ghost use Rattle.lg_value.specs.Bit.{same_bit_equiv};
+ghost use Rattle.lg_value.specs.Word.{IsWidth, IsDefined, same_word, join_words, number_of, word_of_number};
 
-use crate::bit::{Bit, join_bits};
+use crate::bit::Bit;
+use crate::planes::{bit_of_digits, digit_at, first_digit, low_ones, second_digit, with_digit};
 use std::marker::Model;
-
-const MOST_BITS: usize = 64;
 
 /// A word of 1 to 64 bits. In a contract it is the list of its bits, bit 0 first.
 #[derive(Clone, Copy, Debug)]
 pub struct Word {
-    bits: [Bit; MOST_BITS],
+    // 1 where the bit is One or Error, and 0 past the width.
+    a: u64,
+    // 1 where the bit is Unknown or Error, and 0 past the width.
+    b: u64,
     width: u32,
 }
 
 impl Model for Word {
-    ghost use Rattle.std.specs.Prelude.{◌-◌, List, ◌++◌, length, take, replicate};
+    ghost use Rattle.std.specs.Prelude.{List, length};
     ghost use Rattle.lg_value.specs.declared.bit.Bit.{Bit};
-    ghost use Rattle.lg_value.specs.declared.bit.Bit.TheVariants.{Zero};
-    ghost use Rattle.lg_value.specs.Storage.{IsStored, length-take_stored, padded_again};
+    ghost use Rattle.lg_value.specs.Storage.{IsStored, word_of_planes, plane_of, first_digit, second_digit, length-word_of_planes, first_plane, second_plane};
 
     ghost Value = { List Bit };
 
-    ghost view = { λ w. take w.width w.bits };
+    ghost view = { λ w. word_of_planes w.width w.a w.b };
 
-    ghost invariant = { λ w. IsStored w.bits w.width };
+    ghost invariant = { λ w. IsStored w.width w.a w.b };
 
-    ghost inverse = { λ word. record { bits = word ++ replicate (64 - length word) Zero; width = length word } };
+    ghost inverse = { λ word. record {
+      a = plane_of first_digit word;
+      b = plane_of second_digit word;
+      width = length word;
+    } };
 
     ghost inverse_ok = { λ w stored i. record {
-      bits = padded_again w.bits w.width stored i;
-      width = length-take_stored w.bits w.width stored i;
+      a = first_plane w.width w.a w.b stored.first i;
+      b = second_plane w.width w.a w.b stored.second i;
+      width = length-word_of_planes w.width w.a w.b i;
     } };
 }
 
@@ -47,7 +53,7 @@ impl PartialEq for Word {
         ensures eq { result ≡ same_word self.now other.now }
         ensures same { IsTrue result ↔ (self.now ≡ other.now) }
     {
-        self.as_bits() == other.as_bits()
+        (self.width == other.width) & (self.a == other.a) & (self.b == other.b)
     }
 }
 
@@ -55,57 +61,19 @@ impl Eq for Word {
     ghost laws = { lists_equiv same_bit_equiv };
 }
 
-// The binary digit of `n` at a place.
-fn bit_of_number(n: u64, place: usize) -> Bit
-    requires { place < 64 }
-    ensures { result ≡ bit_of_number n place }
-{
-    if (n >> place) & 1 == 1 {
-        Bit::One
-    } else {
-        Bit::Zero
-    }
-}
-
-// The digit that a bit stands for in a number.
-fn digit_of(bit: Bit) -> u64
-    ensures { result ≡ digit_of bit }
-{
-    match bit {
-        Bit::One => 1,
-        Bit::Zero | Bit::Unknown | Bit::Error => 0,
-    }
-}
-
 impl Word {
-    // The word of these bits.
-    fn of_bits(bits: &[Bit]) -> Word
-        requires { IsWidth (length bits.now) }
-        ensures { result ≡ bits.now }
-    {
-        let mut padded = [Bit::Zero; MOST_BITS];
-        padded[..bits.len()].copy_from_slice(bits);
-        Word {
-            bits: padded,
-            width: bits.len() as u32,
-        }
-    }
-
-    // The bits that the word has.
-    fn as_bits(&self) -> &[Bit]
-        ensures same { result.now ≡ self.now }
-        ensures in_range { IsWidth (length self.now) }
-    {
-        &self.bits[..self.width as usize]
-    }
-
     /// The word of `width` bits that are all `bit`. The width is 1 to 64.
     pub fn fill(width: u32, bit: Bit) -> Word
         requires { IsWidth width }
         ensures bits { result ≡ replicate width bit }
         ensures width { length result ≡ width }
     {
-        Word::of_bits(&[bit; MOST_BITS][..width as usize])
+        let ones = low_ones(width);
+        Word {
+            a: first_digit(bit) * ones,
+            b: second_digit(bit) * ones,
+            width,
+        }
     }
 
     /// The word of the low `width` bits of `n`. The width is 1 to 64.
@@ -116,11 +84,11 @@ impl Word {
         ensures defined { IsDefined result }
         ensures number { number_of result ≡ n % 2 ^ width }
     {
-        let mut bits = [Bit::Zero; MOST_BITS];
-        for place in 0..width as usize {
-            bits[place] = bit_of_number(n, place);
+        Word {
+            a: n & low_ones(width),
+            b: 0,
+            width,
         }
-        Word::of_bits(&bits[..width as usize])
     }
 
     /// The number of bits, 1 to 64.
@@ -136,7 +104,7 @@ impl Word {
         requires { i < length self.now }
         ensures { slice_get self.now i ≡ Some result }
     {
-        self.bits[i as usize]
+        bit_of_digits(digit_at(self.a, i), digit_at(self.b, i))
     }
 
     /// The same word with `b` at place `i`, which is below the width.
@@ -145,9 +113,11 @@ impl Word {
         ensures bits { result ≡ slice_set self.now i b }
         ensures width { length result ≡ length self.now }
     {
-        let mut bits = self.bits;
-        bits[i as usize] = b;
-        Word { bits, ..*self }
+        Word {
+            a: with_digit(self.a, i, first_digit(b)),
+            b: with_digit(self.b, i, second_digit(b)),
+            width: self.width,
+        }
     }
 
     /// The two words' join, bit by bit. Their widths are equal.
@@ -156,13 +126,13 @@ impl Word {
         ensures bits { result ≡ join_words self.now other.now }
         ensures width { length result ≡ length self.now }
     {
-        let own = self.as_bits();
-        let others = other.as_bits();
-        let mut joined = [Bit::Zero; MOST_BITS];
-        for place in 0..own.len() {
-            joined[place] = join_bits(own[place], others[place]);
+        // Where neither is Unknown or both are, `unlike` tells whether they differ.
+        let unlike = (self.a & !other.b) ^ (other.a & !self.b);
+        Word {
+            a: self.a | other.a,
+            b: (self.b & other.b) | unlike,
+            width: self.width,
         }
-        Word::of_bits(&joined[..own.len()])
     }
 
     /// The `width` bits from place `low` on. There is at least one, and all lie inside.
@@ -172,7 +142,14 @@ impl Word {
         ensures bits { result ≡ take width (drop low self.now) }
         ensures width { length result ≡ width }
     {
-        Word::of_bits(&self.as_bits()[low as usize..(low + width) as usize])
+        let a = self.a >> low;
+        let b = self.b >> low;
+        let ones = low_ones(width);
+        Word {
+            a: a & ones,
+            b: b & ones,
+            width,
+        }
     }
 
     /// The bits of this word and, above them, those of `high`. The widths sum to at most 64.
@@ -181,22 +158,18 @@ impl Word {
         ensures bits { result ≡ self.now ++ high.now }
         ensures width { length result ≡ length self.now + length high.now }
     {
-        let low = self.as_bits();
-        let high = high.as_bits();
-        let end = low.len() + high.len();
-        let mut bits = [Bit::Zero; MOST_BITS];
-        bits[..low.len()].copy_from_slice(low);
-        bits[low.len()..end].copy_from_slice(high);
-        Word::of_bits(&bits[..end])
+        Word {
+            a: (high.a << self.width) | self.a,
+            b: (high.b << self.width) | self.b,
+            width: self.width + high.width,
+        }
     }
 
     /// Whether every bit is Zero or One.
     pub fn defined(&self) -> bool
         ensures { IsTrue result ↔ IsDefined self.now }
     {
-        self.as_bits()
-            .iter()
-            .all(|bit| matches!(bit, Bit::Zero | Bit::One))
+        self.b == 0
     }
 
     /// The number whose binary digits the bits are, bit 0 the lowest. Every bit is Zero or One.
@@ -206,10 +179,6 @@ impl Word {
         ensures fits { result < 2 ^ length self.now }
         ensures undone { word_of_number (length self.now) result ≡ self.now }
     {
-        let mut n = 0;
-        for (place, bit) in self.as_bits().iter().enumerate() {
-            n += digit_of(*bit) << place;
-        }
-        n
+        self.a
     }
 }
