@@ -1,4 +1,4 @@
-//! Tests of the crates at the base, on values that a person worked out.
+//! Tests of the crates at the base, on values and circuits that a person worked out.
 #![tactic(auto)]
 
 #[cfg(test)]
@@ -7,6 +7,10 @@ mod graph;
 mod io;
 #[cfg(test)]
 mod text;
+#[cfg(test)]
+mod timing;
+#[cfg(test)]
+mod timing_samples;
 #[cfg(test)]
 mod value;
 #[cfg(test)]

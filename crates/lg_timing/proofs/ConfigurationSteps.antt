@@ -10,7 +10,7 @@ use Rattle.lg_timing.specs.Circuit.{Word, Part, Circuit, Stimulus}
 use Rattle.lg_timing.specs.Instant.{Instant, Numbered, numbered_parts, answered, unknown_words, input_words, words_on, bits_on, pulls_of, or_else, net_bit, next_state, output_words, in_force, timeline, instant_at}
 use Rattle.lg_timing.specs.Configuration.{Configuration, due_words, configuration_at, nets_shown, stimulus_of, nets_of, stepped, first, due_of, next, going_on, HaveDelays}
 use Rattle.lg_timing.proofs.Outputs.{driven_alike}
-use Rattle.lg_timing.proofs.SeenLemmas.{map_at, number-is}
+use Rattle.lg_timing.proofs.Numbering.{map_at, number-is}
 
 -- what holds of each part holds of each numbered one
 pub numbered-all : (P : Part → Type 0) (c : Circuit) → All P c.parts → All (λ (p : Numbered). P p.1) (numbered_parts c)

@@ -10,9 +10,11 @@ use Rattle.lg_value.specs.declared.bit.Bit.{Bit}
 use Rattle.lg_timing.specs.Circuit.{Word, Port, Circuit, Stimulus}
 use Rattle.lg_timing.specs.Instant.{Instant, Numbered, numbered_parts, answered, word_at, input_words, state_of, next_state, net_bit, in_force, timeline, instant_at}
 use Rattle.lg_timing.specs.Settling.{same_words, is_busy, SettlesAt, IsSteady, StayFrom}
-use Rattle.lg_timing.specs.Evaluation.{bits_read, is_evaluated, evaluations_at, evaluations}
+use Rattle.lg_timing.specs.Configuration.{configuration_at, nets_of}
+use Rattle.lg_timing.specs.Evaluation.{bits_read, is_evaluated, evaluations_at, evaluations, evaluations_between}
 use Rattle.lg_timing.proofs.Timeline.{in_force-stays}
 use Rattle.lg_timing.proofs.Outputs.{Decides-same_words, SameOutputs-from_quiet, net_bit_alike}
+use Rattle.lg_timing.proofs.ConfigurationSteps.{nets_of-is}
 use Rattle.lg_timing.proofs.Instants.{next_state_again, state_of_next, steady_numbered}
 
 count_by-all : {X : Type 0} (xs : List X) → count_by (λ x. true) xs ≡ length xs
@@ -124,3 +126,17 @@ evaluations-settled c stimuli start settled stay settles (suc n) =
     ap (evaluations c stimuli start) same
     ∙ ap (λ k. evaluations c stimuli start (settled - start + 1 + n) + k) none
     ∙ omega (arith, evaluations-settled c stimuli start settled stay settles n)
+
+-- of the configurations of two instants in turn
+pub evaluations_between-is : (c : Circuit) (stimuli : List Stimulus) (t : ℕ) → evaluations_between c (configuration_at c stimuli t) (configuration_at c stimuli (suc t)) ≡ evaluations_at c stimuli (suc t)
+evaluations_between-is c stimuli t =
+    ap (λ (f : ℕ → Bit). count_by (λ (p : Numbered). not (same_words (bits_read f p.1) (bits_read (nets_of c (configuration_at c stimuli (suc t))) p.1))) (numbered_parts c)) (nets_of-is c stimuli t)
+    ∙ ap (λ (f : ℕ → Bit). count_by (λ (p : Numbered). not (same_words (bits_read (instant_at c stimuli t).nets p.1) (bits_read f p.1))) (numbered_parts c)) (nets_of-is c stimuli (suc t))
+
+pub evaluations-none : (c : Circuit) (stimuli : List Stimulus) (start : ℕ) → evaluations c stimuli start 0 ≡ 0
+unfolding evaluations
+evaluations-none c stimuli start = refl
+
+pub evaluations-more : (c : Circuit) (stimuli : List Stimulus) (start n : ℕ) → evaluations c stimuli start (suc n) ≡ evaluations c stimuli start n + evaluations_at c stimuli (start + n)
+unfolding evaluations
+evaluations-more c stimuli start n = refl

@@ -1,4 +1,5 @@
 pub mod Timeline
+pub mod Numbering
 pub mod Outputs
 pub mod Instants
 pub mod Stretch
@@ -12,12 +13,4 @@ pub mod Shift
 pub mod Rest
 pub mod Still
 pub mod Evaluated
-pub mod CountLemmas
 pub mod NotTimeline
-pub mod DriverSteps
-pub mod PartSteps
-pub mod SeenLemmas
-pub mod RunLemmas
-pub mod TableLemmas
-pub mod SteppingLemmas
-pub mod SampleLemmas

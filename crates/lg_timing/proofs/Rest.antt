@@ -9,7 +9,7 @@ use Rattle.lg_timing.specs.Settling.{is_busy, SettlesAt, StayFrom, StandAfter}
 use Rattle.lg_timing.specs.Configuration.{Configuration, due_words, configuration_at, due_of, next, staying, IsStill, IsAtRest, HaveDelays}
 use Rattle.lg_timing.proofs.Timeline.{in_force-stays}
 use Rattle.lg_timing.proofs.Outputs.{SameOutputs, SameOutputs-from_quiet}
-use Rattle.lg_timing.proofs.SeenLemmas.{map_at}
+use Rattle.lg_timing.proofs.Numbering.{map_at}
 use Rattle.lg_timing.proofs.LaterStimuli.{configuration_at-later}
 use Rattle.lg_timing.proofs.ConfigurationSteps.{at-number, configuration-next}
 

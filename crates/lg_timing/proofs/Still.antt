@@ -9,7 +9,7 @@ use Rattle.lg_timing.specs.Settling.{IsSteady}
 use Rattle.lg_timing.specs.Configuration.{Configuration, due_words, configuration_at, stimulus_of, due_of, next, staying, IsStill, IsAtRest, HaveDelays}
 use Rattle.lg_timing.proofs.Outputs.{Agree}
 use Rattle.lg_timing.proofs.Instants.{next_again}
-use Rattle.lg_timing.proofs.SeenLemmas.{map_at}
+use Rattle.lg_timing.proofs.Numbering.{map_at}
 use Rattle.lg_timing.proofs.ConfigurationSteps.{numbered-all, instant_after, configuration-under}
 use Rattle.lg_timing.proofs.Rest.{shown_of-is, due_of-is}
 

@@ -5,8 +5,8 @@ use Rattle.std.specs.List.{count_by}
 use Rattle.lg_value.specs.declared.bit.Bit.{Bit}
 use Rattle.lg_timing.specs.Circuit.{Word, Port, Part, Circuit, Stimulus}
 use Rattle.lg_timing.specs.Instant.{Numbered, numbered_parts, answered, state_of, instant_at}
-use Rattle.lg_timing.specs.declared.run.Settling.{Settling}
-use Rattle.lg_timing.specs.declared.run.Settling.TheVariants.{Settled, Oscillates}
+use Rattle.lg_timing.specs.declared.settling.Settling.{Settling}
+use Rattle.lg_timing.specs.declared.settling.Settling.TheVariants.{Settled, Oscillates}
 use Rattle.lg_timing.specs.Settling.{same_words, SettlesWithin, OscillatesPast}
 use Rattle.lg_timing.specs.Configuration.{Configuration, nets_of}
 

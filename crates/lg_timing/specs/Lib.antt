@@ -4,8 +4,5 @@ pub mod Settling
 pub mod Configuration
 pub mod Evaluation
 pub mod Session
-pub mod Plain
-pub mod Stepping
 pub mod Samples
 pub mod NotGate
-pub mod Rows

@@ -1,9 +1,8 @@
 use Rattle.std.proofs.Common.{◌≡◌, ◌+◌, suc, false, Some, get_or, subst, arith}
 use Rattle.lg_timing.specs.Instant.{Numbered, numbered_parts, answered, state_of, instant_at}
 use Rattle.lg_timing.specs.Evaluation.{is_evaluated, evaluations_at, evaluations_between}
-use Rattle.lg_timing.proofs.Evaluated.{evaluations-first, answer-unevaluated, unevaluated-unattached, none-settled}
+use Rattle.lg_timing.proofs.Evaluated.{evaluations-first, evaluations_between-is, answer-unevaluated, unevaluated-unattached, none-settled}
 use Rattle.lg_timing.specs.Configuration.{configuration_at}
-use Rattle.lg_timing.proofs.CountLemmas.{evaluations_between-is}
 use Rattle.lg_timing.proofs.law.evaluations_are_counted.Goals as goal
 
 pub returns : goal.returns

@@ -1,0 +1,498 @@
+//! Circuits that a person worked out instant by instant.
+
+use crate::timing_samples::{Kind, Sample};
+use lg_instants::{
+    Circuit, Nets, Phase, Port, Settling, Stimulus, Table, Words, evaluations_at, is_well_formed,
+    session, settle, stepped_value_at, value_at,
+};
+use lg_value::{Bit, Word};
+use std::alloc::{AllocError, Global};
+use std::process::Abort;
+use std::test::Fail;
+
+const ZERO: Bit = Bit::Zero;
+
+const ONE: Bit = Bit::One;
+
+const UNKNOWN: Bit = Bit::Unknown;
+
+const ERROR: Bit = Bit::Error;
+
+fn ports(alloc: Global, nets: &[u32]) -> Result<Vec<Port>, AllocError> {
+    let mut ports = Vec::new(alloc);
+    for net in nets {
+        let net = Vec::from_slice(alloc, &[*net])?;
+        ports.push(Port::new(Nets::new(net), 1))?;
+    }
+    Ok(ports)
+}
+
+fn pins(alloc: Global, nets: &[u32]) -> Result<Vec<Nets>, AllocError> {
+    let mut pins = Vec::new(alloc);
+    for net in nets {
+        pins.push(Nets::new(Vec::from_slice(alloc, &[*net])?))?;
+    }
+    Ok(pins)
+}
+
+fn part(alloc: Global, kind: Kind, inputs: &[u32], outputs: &[u32]) -> Result<Sample, AllocError> {
+    let inputs = ports(alloc, inputs)?;
+    let outputs = ports(alloc, outputs)?;
+    Ok(Sample {
+        kind,
+        inputs,
+        outputs,
+    })
+}
+
+// A circuit with one-bit pins on these nets.
+fn circuit(
+    alloc: Global,
+    parts: &[(Kind, &[u32], &[u32])],
+    inputs: &[u32],
+    outputs: &[u32],
+    clocks: &[u32],
+) -> Result<Circuit<Sample>, AllocError> {
+    let mut made = Vec::new(alloc);
+    for (kind, reads, drives) in parts {
+        made.push(part(alloc, *kind, reads, drives)?)?;
+    }
+    Ok(Circuit {
+        parts: made,
+        pulls: Vec::new(alloc),
+        pins: pins(alloc, inputs)?,
+        outputs: pins(alloc, outputs)?,
+        clocks: Nets::new(Vec::from_slice(alloc, clocks)?),
+    })
+}
+
+fn words(alloc: Global, bits: &[Bit]) -> Result<Words, AllocError> {
+    let mut words = Vec::new(alloc);
+    for bit in bits {
+        words.push(Word::fill(1, *bit))?;
+    }
+    Ok(Words::new(words))
+}
+
+fn rows(alloc: Global, bits: &[Bit]) -> Result<Vec<Words>, AllocError> {
+    let mut rows = Vec::new(alloc);
+    for bit in bits {
+        rows.push(words(alloc, &[*bit])?)?;
+    }
+    Ok(rows)
+}
+
+fn stimuli(alloc: Global, put: &[(u64, Bit)]) -> Result<Vec<Stimulus>, AllocError> {
+    let mut stimuli = Vec::new(alloc);
+    for (from, bit) in put {
+        stimuli.push(Stimulus::new(*from, words(alloc, &[*bit])?, ZERO))?;
+    }
+    Ok(stimuli)
+}
+
+// The bits of a net at instants 0, 1 and so on.
+fn expect_net(
+    rt: &impl Abort,
+    alloc: Global,
+    circuit: &Circuit<Sample>,
+    stimuli: &[Stimulus],
+    net: u32,
+    want: &[Bit],
+) -> Result<(), Fail> {
+    assert!(rt; is_well_formed(circuit));
+    for (instant, bit) in want.iter().enumerate() {
+        let found = value_at(alloc, circuit, stimuli, instant as u64, net)?;
+        assert_eq!(rt; found, *bit, "net {net} at {instant}");
+        let stepped = stepped_value_at(alloc, circuit, stimuli, instant as u64, net)?;
+        assert_eq!(rt; stepped, *bit, "net {net} at {instant}");
+    }
+    Ok(())
+}
+
+// The table of a circuit that is well formed.
+fn table_of(
+    rt: &impl Abort,
+    alloc: Global,
+    circuit: &Circuit<Sample>,
+    rows: &[Words],
+    limit: u32,
+) -> Result<Table, AllocError> {
+    assert!(rt; is_well_formed(circuit));
+    session(alloc, circuit, rows, limit)
+}
+
+// What becomes of a second stimulus of a circuit that is well formed, the first being at 0.
+fn settling_of(
+    rt: &impl Abort,
+    alloc: Global,
+    circuit: &Circuit<Sample>,
+    bits: (Bit, Bit),
+    from: u64,
+    limit: u32,
+) -> Result<Settling, AllocError> {
+    assert!(rt; is_well_formed(circuit));
+    let mut put = Vec::new(alloc);
+    put.push(Stimulus::new(0, words(alloc, &[bits.0])?, ZERO))?;
+    put.push(Stimulus::new(from, words(alloc, &[bits.1])?, ZERO))?;
+    settle(alloc, circuit, put.as_slice(), from, limit)
+}
+
+// How many parts of a circuit that is well formed have an evaluation at instants 0, 1 and so on.
+fn expect_evaluations(
+    rt: &impl Abort,
+    alloc: Global,
+    circuit: &Circuit<Sample>,
+    stimuli: &[Stimulus],
+    want: &[usize],
+) -> Result<(), Fail> {
+    assert!(rt; is_well_formed(circuit));
+    for (instant, count) in want.iter().enumerate() {
+        let found = evaluations_at(alloc, circuit, stimuli, instant as u64)?;
+        assert_eq!(rt; found, *count, "at {instant}");
+    }
+    Ok(())
+}
+
+type Ticks = Option<(u64, u64)>;
+
+// The lines of a table, each with the first output, and where it stops.
+fn expect_table(
+    rt: &impl Abort,
+    alloc: Global,
+    circuit: &Circuit<Sample>,
+    rows: &[Words],
+    limit: u32,
+    want: &[(Bit, u64, Ticks)],
+    stop: Option<(u64, Phase)>,
+) -> Result<(), Fail> {
+    let table = table_of(rt, alloc, circuit, rows, limit)?;
+    assert_eq!(rt; table.lines.len(), want.len());
+    for (line, (output, settle, tick)) in table.lines.iter().zip(want) {
+        assert_eq!(rt; line.outputs.words(), [Word::fill(1, *output)].as_slice());
+        assert_eq!(rt; line.settle, *settle);
+        assert_eq!(rt; line.tick, *tick);
+    }
+    let stopped = table.stop.map(|stop| (stop.row, stop.phase));
+    assert_eq!(rt; stopped, stop);
+    Ok(())
+}
+
+#[test]
+fn not_gate_settles_in_one_instant(rt: HostRuntime) -> Result<(), Fail> {
+    let alloc = rt.alloc();
+    let gate = circuit(alloc, &[(Kind::Not, &[0], &[1])], &[0], &[1], &[])?;
+    let put = stimuli(alloc, &[(0, ZERO), (2, ONE)])?;
+    let want = [UNKNOWN, ONE, ONE, ZERO, ZERO];
+    expect_net(&rt, alloc, &gate, put.as_slice(), 1, &want)?;
+    expect_evaluations(&rt, alloc, &gate, put.as_slice(), &[1, 0, 1, 0, 0])?;
+    expect_net(
+        &rt,
+        alloc,
+        &gate,
+        put.as_slice(),
+        0,
+        &[ZERO, ZERO, ONE, ONE],
+    )?;
+    let rows = rows(alloc, &[ZERO, ONE])?;
+    let lines = [(ONE, 1, None), (ZERO, 1, None)];
+    expect_table(&rt, alloc, &gate, rows.as_slice(), 1, &lines, None)?;
+    let stop = Some((1, Phase::Settle));
+    expect_table(&rt, alloc, &gate, rows.as_slice(), 0, &[], stop)
+}
+
+#[test]
+fn change_runs_down_a_chain(rt: HostRuntime) -> Result<(), Fail> {
+    let alloc = rt.alloc();
+    let parts: [(Kind, &[u32], &[u32]); 4] = [
+        (Kind::Not, &[0], &[1]),
+        (Kind::Not, &[1], &[2]),
+        (Kind::Not, &[2], &[3]),
+        (Kind::Not, &[3], &[4]),
+    ];
+    let chain = circuit(alloc, &parts, &[0], &[4], &[])?;
+    let put = stimuli(alloc, &[(0, ZERO), (5, ONE)])?;
+    let want: [[Bit; 11]; 4] = [
+        [
+            UNKNOWN, ONE, ONE, ONE, ONE, ONE, ZERO, ZERO, ZERO, ZERO, ZERO,
+        ],
+        [
+            UNKNOWN, ERROR, ZERO, ZERO, ZERO, ZERO, ZERO, ONE, ONE, ONE, ONE,
+        ],
+        [
+            UNKNOWN, ERROR, ERROR, ONE, ONE, ONE, ONE, ONE, ZERO, ZERO, ZERO,
+        ],
+        [
+            UNKNOWN, ERROR, ERROR, ERROR, ZERO, ZERO, ZERO, ZERO, ZERO, ONE, ONE,
+        ],
+    ];
+    expect_net(&rt, alloc, &chain, put.as_slice(), 1, &want[0])?;
+    expect_net(&rt, alloc, &chain, put.as_slice(), 2, &want[1])?;
+    expect_net(&rt, alloc, &chain, put.as_slice(), 3, &want[2])?;
+    expect_net(&rt, alloc, &chain, put.as_slice(), 4, &want[3])?;
+    let lines = [(ZERO, 4, None), (ONE, 4, None)];
+    expect_table(
+        &rt,
+        alloc,
+        &chain,
+        rows(alloc, &[ZERO, ONE])?.as_slice(),
+        4,
+        &lines,
+        None,
+    )
+}
+
+#[test]
+fn pulse_shorter_than_a_delay_passes_a_chain(rt: HostRuntime) -> Result<(), Fail> {
+    let alloc = rt.alloc();
+    let parts: [(Kind, &[u32], &[u32]); 3] = [
+        (Kind::Not, &[0], &[1]),
+        (Kind::Line3, &[1], &[2]),
+        (Kind::Line5, &[2], &[3]),
+    ];
+    let chain = circuit(alloc, &parts, &[0], &[3], &[])?;
+    let put = stimuli(alloc, &[(0, ONE), (2, ZERO), (4, ONE)])?;
+    let not = [UNKNOWN, ZERO, ZERO, ONE, ONE, ZERO, ZERO];
+    let line = [
+        UNKNOWN, UNKNOWN, UNKNOWN, UNKNOWN, ZERO, ZERO, ONE, ONE, ZERO, ZERO,
+    ];
+    let last = [
+        UNKNOWN, UNKNOWN, UNKNOWN, UNKNOWN, UNKNOWN, UNKNOWN, UNKNOWN, UNKNOWN, UNKNOWN, ZERO,
+        ZERO, ONE, ONE, ZERO, ZERO,
+    ];
+    expect_net(&rt, alloc, &chain, put.as_slice(), 1, &not)?;
+    expect_net(&rt, alloc, &chain, put.as_slice(), 2, &line)?;
+    expect_net(&rt, alloc, &chain, put.as_slice(), 3, &last)?;
+    let lines = [(ONE, 9, None), (ZERO, 9, None)];
+    let rows = rows(alloc, &[ZERO, ONE])?;
+    expect_table(&rt, alloc, &chain, rows.as_slice(), 3, &lines, None)?;
+    let took = Settling::Settled {
+        took: 9,
+        evaluations: 3,
+    };
+    assert_eq!(rt; settling_of(&rt, alloc, &chain, (ZERO, ONE), 20, 3)?, took);
+    Ok(())
+}
+
+#[test]
+fn change_taken_back_before_it_came_out_comes_out(rt: HostRuntime) -> Result<(), Fail> {
+    let alloc = rt.alloc();
+    let line = circuit(alloc, &[(Kind::Line5, &[0], &[1])], &[0], &[1], &[])?;
+    let put = stimuli(alloc, &[(0, ZERO), (3, ONE), (4, ZERO)])?;
+    let want = [
+        UNKNOWN, UNKNOWN, UNKNOWN, UNKNOWN, UNKNOWN, ZERO, ZERO, ZERO, ONE, ZERO,
+    ];
+    expect_net(&rt, alloc, &line, put.as_slice(), 1, &want)?;
+    let both = Settling::Settled {
+        took: 5,
+        evaluations: 1,
+    };
+    assert_eq!(rt; settling_of(&rt, alloc, &line, (ZERO, ONE), 9, 1)?, both);
+    Ok(())
+}
+
+#[test]
+fn nand_loop_toggles_at_each_instant(rt: HostRuntime) -> Result<(), Fail> {
+    let alloc = rt.alloc();
+    let ring = circuit(alloc, &[(Kind::Nand, &[0, 1], &[1])], &[0], &[1], &[])?;
+    let put = stimuli(alloc, &[(0, ZERO), (4, ONE)])?;
+    let want = [UNKNOWN, ONE, ONE, ONE, ONE, ZERO, ONE, ZERO];
+    expect_net(&rt, alloc, &ring, put.as_slice(), 1, &want)?;
+    let past = Settling::Oscillates {
+        busy: 4,
+        evaluations: 4,
+    };
+    assert_eq!(rt; settling_of(&rt, alloc, &ring, (ZERO, ONE), 4, 3)?, past);
+    Ok(())
+}
+
+#[test]
+fn loop_oscillates_where_a_pin_enables_it(rt: HostRuntime) -> Result<(), Fail> {
+    let alloc = rt.alloc();
+    let parts: [(Kind, &[u32], &[u32]); 2] = [(Kind::And, &[0, 2], &[1]), (Kind::Not, &[1], &[2])];
+    let ring = circuit(alloc, &parts, &[0], &[1], &[])?;
+    let put = stimuli(alloc, &[(0, ZERO), (3, ONE)])?;
+    let and = [UNKNOWN, ZERO, ZERO, ZERO, ONE, ONE, ZERO, ZERO, ONE];
+    let not = [UNKNOWN, ERROR, ONE, ONE, ONE, ZERO, ZERO, ONE, ONE];
+    expect_net(&rt, alloc, &ring, put.as_slice(), 1, &and)?;
+    expect_net(&rt, alloc, &ring, put.as_slice(), 2, &not)?;
+    for limit in [2, 3, 100] {
+        let rows = rows(alloc, &[ZERO, ONE, ZERO])?;
+        let stop = Some((2, Phase::Settle));
+        expect_table(
+            &rt,
+            alloc,
+            &ring,
+            rows.as_slice(),
+            limit,
+            &[(ZERO, 2, None)],
+            stop,
+        )?;
+    }
+    let rows = rows(alloc, &[ZERO])?;
+    expect_table(
+        &rt,
+        alloc,
+        &ring,
+        rows.as_slice(),
+        1,
+        &[],
+        Some((1, Phase::Settle)),
+    )
+}
+
+#[test]
+fn two_gates_on_one_net_disagree(rt: HostRuntime) -> Result<(), Fail> {
+    let alloc = rt.alloc();
+    let parts: [(Kind, &[u32], &[u32]); 2] = [(Kind::Not, &[0], &[2]), (Kind::Not, &[1], &[2])];
+    let table = [
+        (ZERO, ZERO, ONE),
+        (ZERO, ONE, ERROR),
+        (ONE, ZERO, ERROR),
+        (ONE, ONE, ZERO),
+        (ONE, UNKNOWN, ERROR),
+    ];
+    for (a, b, want) in table {
+        let both = circuit(alloc, &parts, &[0, 1], &[2], &[])?;
+        let mut rows = Vec::new(alloc);
+        rows.push(words(alloc, &[a, b])?)?;
+        expect_table(
+            &rt,
+            alloc,
+            &both,
+            rows.as_slice(),
+            9,
+            &[(want, 1, None)],
+            None,
+        )?;
+    }
+    Ok(())
+}
+
+#[test]
+fn pull_yields_to_drivers(rt: HostRuntime) -> Result<(), Fail> {
+    let alloc = rt.alloc();
+    let mut gate = circuit(alloc, &[(Kind::Not, &[0], &[1])], &[0], &[1], &[])?;
+    for net in 0..3 {
+        gate.pulls.push((net, ONE))?;
+    }
+    gate.pulls.push((2, UNKNOWN))?;
+    gate.pulls.push((3, ZERO))?;
+    gate.pulls.push((3, ONE))?;
+    let put = stimuli(alloc, &[(0, ONE)])?;
+    expect_net(&rt, alloc, &gate, put.as_slice(), 0, &[ONE, ONE])?;
+    expect_net(&rt, alloc, &gate, put.as_slice(), 1, &[ONE, ZERO])?;
+    expect_net(&rt, alloc, &gate, put.as_slice(), 2, &[ONE, ONE])?;
+    expect_net(&rt, alloc, &gate, put.as_slice(), 3, &[ERROR, ERROR])?;
+    expect_net(&rt, alloc, &gate, put.as_slice(), 4, &[UNKNOWN, UNKNOWN])?;
+    let floating = stimuli(alloc, &[(0, UNKNOWN)])?;
+    expect_net(&rt, alloc, &gate, floating.as_slice(), 0, &[ONE, ONE])
+}
+
+#[test]
+fn constant_is_busy_at_instant_one(rt: HostRuntime) -> Result<(), Fail> {
+    let alloc = rt.alloc();
+    let constant = circuit(alloc, &[(Kind::Constant, &[], &[0])], &[], &[0], &[])?;
+    let mut rows = Vec::new(alloc);
+    rows.push(words(alloc, &[])?)?;
+    rows.push(words(alloc, &[])?)?;
+    expect_net(&rt, alloc, &constant, &[], 0, &[UNKNOWN, ONE, ONE])?;
+    let lines = [(ONE, 1, None), (ONE, 0, None)];
+    expect_table(&rt, alloc, &constant, rows.as_slice(), 1, &lines, None)?;
+    let stop = Some((1, Phase::Settle));
+    expect_table(&rt, alloc, &constant, rows.as_slice(), 0, &[], stop)
+}
+
+#[test]
+fn flip_flop_toggles_at_each_rise(rt: HostRuntime) -> Result<(), Fail> {
+    let alloc = rt.alloc();
+    let parts: [(Kind, &[u32], &[u32]); 1] = [(Kind::FlipFlop, &[1, 2], &[0, 1])];
+    let toggle = circuit(alloc, &parts, &[], &[0], &[2])?;
+    let mut rows = Vec::new(alloc);
+    for _ in 0..4 {
+        rows.push(words(alloc, &[])?)?;
+    }
+    let lines = [
+        (ZERO, 5, Some((5, 0))),
+        (ONE, 0, Some((5, 0))),
+        (ZERO, 0, Some((5, 0))),
+        (ONE, 0, Some((5, 0))),
+    ];
+    expect_table(&rt, alloc, &toggle, rows.as_slice(), 1, &lines, None)
+}
+
+#[test]
+fn flip_flop_takes_the_data_of_its_trigger(rt: HostRuntime) -> Result<(), Fail> {
+    let alloc = rt.alloc();
+    let parts: [(Kind, &[u32], &[u32]); 1] = [(Kind::FlipFlop, &[0, 1], &[2, 3])];
+    let flip = circuit(alloc, &parts, &[0, 1], &[2], &[])?;
+    let mut put = Vec::new(alloc);
+    for (from, data, clock) in [
+        (0, ZERO, ZERO),
+        (1, ONE, ONE),
+        (2, ONE, ZERO),
+        (3, ZERO, ONE),
+    ] {
+        put.push(Stimulus::new(from, words(alloc, &[data, clock])?, ZERO))?;
+    }
+    let want = [
+        UNKNOWN, UNKNOWN, UNKNOWN, UNKNOWN, UNKNOWN, ZERO, ONE, ONE, ZERO,
+    ];
+    expect_net(&rt, alloc, &flip, put.as_slice(), 2, &want)
+}
+
+#[test]
+fn clock_that_enables_a_loop_stops_at_the_rise(rt: HostRuntime) -> Result<(), Fail> {
+    let alloc = rt.alloc();
+    let parts: [(Kind, &[u32], &[u32]); 2] = [(Kind::And, &[0, 2], &[1]), (Kind::Not, &[1], &[2])];
+    let ring = circuit(alloc, &parts, &[], &[1], &[0])?;
+    let mut rows = Vec::new(alloc);
+    rows.push(words(alloc, &[])?)?;
+    let stop = Some((1, Phase::Rise));
+    expect_table(&rt, alloc, &ring, rows.as_slice(), 9, &[], stop)
+}
+
+#[test]
+fn pins_of_two_bits_pass_a_word(rt: HostRuntime) -> Result<(), Fail> {
+    let alloc = rt.alloc();
+    let mut crossed = circuit(alloc, &[], &[], &[], &[])?;
+    crossed
+        .pins
+        .push(Nets::new(Vec::from_slice(alloc, &[0, 1])?))?;
+    crossed
+        .outputs
+        .push(Nets::new(Vec::from_slice(alloc, &[1, 0])?))?;
+    let row = Words::copy_of(alloc, &[Word::from_number(2, 1)])?;
+    let table = table_of(&rt, alloc, &crossed, &[row], 0)?;
+    assert_eq!(rt; table.lines.len(), 1);
+    let line = &table.lines[0];
+    assert_eq!(rt; line.outputs.words(), [Word::from_number(2, 2)].as_slice());
+    assert_eq!(rt; line.settle, 0);
+    Ok(())
+}
+
+#[test]
+fn widths_past_the_ends_are_not_well_formed(rt: HostRuntime) -> Result<(), Fail> {
+    let alloc = rt.alloc();
+    for (nets, width, want) in [
+        (0, 1, true),
+        (0, 64, true),
+        (1, 1, true),
+        (2, 2, true),
+        (0, 0, false),
+        (0, 65, false),
+        (1, 2, false),
+    ] {
+        let nets = Nets::new(Vec::from_slice(alloc, &[0, 1][..nets])?);
+        let mut inputs = Vec::new(alloc);
+        inputs.push(Port::new(nets, width))?;
+        let mut odd = circuit(alloc, &[], &[], &[], &[])?;
+        let outputs = Vec::new(alloc);
+        odd.parts.push(Sample {
+            kind: Kind::Not,
+            inputs,
+            outputs,
+        })?;
+        assert_eq!(rt; is_well_formed(&odd), want, "width {width}");
+    }
+    Ok(())
+}

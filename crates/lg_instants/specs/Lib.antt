@@ -1,0 +1,3 @@
+pub mod Plain
+pub mod Stepping
+pub mod Rows

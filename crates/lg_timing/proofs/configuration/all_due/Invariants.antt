@@ -1,9 +1,0 @@
-use Rattle.std.proofs.Common.{◌≡◌, map, take}
-use Rattle.lg_timing.specs.Instant.{numbered_parts}
-use Rattle.lg_timing.specs.Plain.{circuit_of}
-use Rattle.lg_timing.specs.Stepping.{dues_from}
-use Rattle.lg_timing.proofs.configuration.all_due.Given as goal
-
-abbrev pub invariant-loop-i : goal.invariant-loop-i
-invariant-loop-i g l =
-    l.later.items ≡ map (dues_from l.due l.states l.now) (take l.i (numbered_parts (circuit_of g.P.Behaviour.meaning l.circuit)))

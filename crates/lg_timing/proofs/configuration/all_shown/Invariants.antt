@@ -1,9 +1,0 @@
-use Rattle.std.proofs.Common.{◌≡◌, map, take}
-use Rattle.lg_timing.specs.Instant.{Numbered, numbered_parts}
-use Rattle.lg_timing.specs.Plain.{circuit_of}
-use Rattle.lg_timing.specs.Stepping.{first_due}
-use Rattle.lg_timing.proofs.configuration.all_shown.Given as goal
-
-abbrev pub invariant-loop-i : goal.invariant-loop-i
-invariant-loop-i g l =
-    l.shown.items ≡ map (λ (p : Numbered). first_due l.due p.0) (take l.i (numbered_parts (circuit_of g.P.Behaviour.meaning l.circuit)))

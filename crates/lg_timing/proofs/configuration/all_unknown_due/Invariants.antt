@@ -1,9 +1,0 @@
-use Rattle.std.proofs.Common.{◌≡◌, map, take}
-use Rattle.lg_timing.specs.Instant.{numbered_parts}
-use Rattle.lg_timing.specs.Plain.{circuit_of}
-use Rattle.lg_timing.specs.Stepping.{unknown_dues}
-use Rattle.lg_timing.proofs.configuration.all_unknown_due.Given as goal
-
-abbrev pub invariant-loop-i : goal.invariant-loop-i
-invariant-loop-i g l =
-    l.due.items ≡ map (unknown_dues) (take l.i (numbered_parts (circuit_of g.P.Behaviour.meaning l.circuit)))
