@@ -4,7 +4,7 @@ set -eu
 cd "$(dirname "$0")/.."
 reader=lg_verilog::read_module
 counted=assigns
-uses="lg_verilog lg_text sqlite_items"
+uses="lg_verilog lg_vprint lg_vread lg_vtree lg_text sqlite_items"
 most=134_217_728
 . bench/reader.sh
 

@@ -8,7 +8,7 @@ name=bench_rows
 
 # Builds the program that runs a module on so many rows.
 build() {
-  build_program "lg_io lg_verilog lg_vmeaning sqlite_items" "$1" 1 <<'PROGRAM'
+  build_program "lg_io lg_verilog lg_vprint lg_vread lg_vtree lg_vmachine lg_vrules lg_vmeaning sqlite_items" "$1" 1 <<'PROGRAM'
 //! Runs a module on so many rows, and says by its status whether it could be run.
 #![tactic(auto)]
 

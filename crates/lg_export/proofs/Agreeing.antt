@@ -20,8 +20,8 @@ use Rattle.lg_vrules.specs.declared.names.Sort.TheVariants as sort
 use Rattle.lg_vrules.specs.declared.names.Thing.{Thing}
 use Rattle.lg_vrules.specs.Things.{lines_of, names_of, is_input, is_output, is_memory}
 use Rattle.lg_vmachine.specs.Kept.{Kept}
-use Rattle.lg_vmachine.specs.Meaning.{Valuation, number_of}
-use Rattle.lg_vmachine.proofs.TermLemmas.{reads_only}
+use Rattle.lg_vresolve.specs.Meaning.{Valuation, number_of}
+use Rattle.lg_vresolve.proofs.TermLemmas.{reads_only}
 use Rattle.lg_vmeaning.specs.InOrder.{IsIn}
 use Rattle.lg_vmeaning.specs.Rows.{start, start_number, start_memory, number_after, words_after, after_edge, AreRows}
 use Rattle.lg_vmeaning.specs.Solution.{AreNumbers, AreMemories, IsOf, IsSolution, AgreeOn, IsTheSolution}

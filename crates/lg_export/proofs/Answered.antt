@@ -18,7 +18,7 @@ use Rattle.lg_netlist.specs.declared.netlist.PartUse.{PartUse}
 use Rattle.lg_netlist.specs.Cell.{State, cell_word}
 use Rattle.lg_netlist.specs.Static.{word_on, word_at, inputs_of}
 use Rattle.lg_netlist.specs.Valid.{TakesInputs}
-use Rattle.lg_vmachine.specs.Meaning.{Valuation}
+use Rattle.lg_vresolve.specs.Meaning.{Valuation}
 use Rattle.lg_export.specs.Layout.{input_wire, attached}
 use Rattle.lg_export.proofs.Gates.{bit_of_digit, IsDefinedBit, bits_of, AreSmall, gate_bit-number, number_of-bit, gate_number_small, bit-number_of, number_of-small}
 use Rattle.lg_export.proofs.Equations.{gate_number}

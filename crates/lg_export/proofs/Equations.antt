@@ -19,7 +19,7 @@ use Rattle.lg_vrules.specs.Inside.{form_inside, holds_inside}
 use Rattle.lg_vrules.specs.Rules.{is_of, form_reads, reads_declared, form_width, expr_width, divides_safely, index_fits, all_index}
 use Rattle.lg_vrules.specs.Things.{width_of, is_readable}
 use Rattle.lg_vmachine.specs.Kept.{Kept}
-use Rattle.lg_vmachine.specs.Meaning.{Valuation, number_of, form_number, memory_words, operator_value}
+use Rattle.lg_vresolve.specs.Meaning.{Valuation, number_of, form_number, memory_words, operator_value}
 use Rattle.lg_vmeaning.specs.InOrder.{IsIn}
 use Rattle.lg_export.specs.Layout.{equation, joined}
 use Rattle.lg_export.proofs.Items.{IsItem, item_either, contains_item, item_contains}

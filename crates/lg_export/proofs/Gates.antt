@@ -10,7 +10,7 @@ use Rattle.lg_value.proofs.WordLemmas.{number_of_one}
 use Rattle.lg_netlist.specs.declared.netlist.Cell.{Cell}
 use Rattle.lg_netlist.specs.declared.netlist.Cell.TheVariants as cell
 use Rattle.lg_gates.specs.Gate.{and_bit, or_bit}
-use Rattle.lg_vmachine.specs.Meaning.{Valuation}
+use Rattle.lg_vresolve.specs.Meaning.{Valuation}
 use Rattle.lg_export.proofs.Equations.{folded, gate_number}
 
 -- 0 and 1

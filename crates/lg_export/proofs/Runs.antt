@@ -26,7 +26,7 @@ use Rattle.lg_vrules.specs.Inside.{form_inside, folded, holds_inside}
 use Rattle.lg_vrules.specs.Rules.{is_of, form_reads, reads_declared, at_most_128, place_width, part_width, sum_of, form_width, expr_width, divides_safely, index_fits, all_index}
 use Rattle.lg_vrules.specs.Things.{width_of, is_readable}
 use Rattle.lg_vmachine.specs.Kept.{Kept}
-use Rattle.lg_vmachine.specs.Meaning.{Valuation, joined, memory_words, form_number, number_of}
+use Rattle.lg_vresolve.specs.Meaning.{Valuation, joined, memory_words, form_number, number_of}
 use Rattle.lg_export.specs.Layout.{NamedBit, bit_on, Run, run_of, goes_on, on_top, runs, run_expr, in_braces, bits_value}
 
 -- each of some net bits is a bit of a name of this width

@@ -26,7 +26,7 @@ use Rattle.lg_vrules.specs.declared.names.Sort.TheVariants as sort
 use Rattle.lg_vrules.specs.declared.names.Thing.{Thing}
 use Rattle.lg_vrules.specs.Things.{range_width, names_of, is_output}
 use Rattle.lg_vmachine.specs.Kept.{Kept}
-use Rattle.lg_vmachine.specs.Meaning.{Valuation, number_of}
+use Rattle.lg_vresolve.specs.Meaning.{Valuation, number_of}
 use Rattle.lg_vmeaning.specs.Solution.{IsSolution}
 use Rattle.lg_export.specs.Layout.{NamedBit, numbered, range_of, input_name, output_name, input_wire, output_wire, bit_on, bits_value, attached, equation, module_assigns, module_of}
 use Rattle.lg_export.proofs.Answered.{IsRead, answered, answered_number}

@@ -9,7 +9,7 @@ use Rattle.lg_netlist.specs.Static.{input_pins, start_states, AreStaticRows, IsD
 use Rattle.lg_vtree.specs.declared.module.Module.{Module}
 use Rattle.lg_vrules.specs.Things.{lines_of, is_input}
 use Rattle.lg_vmachine.specs.Kept.{Kept}
-use Rattle.lg_vmachine.specs.Meaning.{Valuation}
+use Rattle.lg_vresolve.specs.Meaning.{Valuation}
 use Rattle.lg_vmeaning.specs.Rows.{start, AreRows}
 use Rattle.lg_vmeaning.specs.Solution.{AreNumbers, IsOf, IsTheSolution}
 use Rattle.lg_vmeaning.specs.Valid.{IsValid}

@@ -34,7 +34,13 @@ fn parts_drive_before_pins_and_clocks(rt: HostRuntime) -> Result<(), Fail> {
 
 #[test]
 fn nets_have_first_drivers(rt: HostRuntime) -> Result<(), Fail> {
-    let netlist = netlist(&rt, rt.alloc(), &[(true, "", &[1, 5])], TWO_ON_ONE_NET, None)?;
+    let netlist = netlist(
+        &rt,
+        rt.alloc(),
+        &[(true, "", &[1, 5])],
+        TWO_ON_ONE_NET,
+        None,
+    )?;
     let found = netlist.first_drivers(rt.alloc())?;
     let low = Some(Driver::Pin { pin: 0, bit: 0 });
     let high = Some(Driver::Pin { pin: 0, bit: 1 });
@@ -199,8 +205,16 @@ const UNDRIVEN: [Row; 11] = [
         "Undriven g0 in2",
     ),
     (&[(true, "", &[0]), (false, "", &[4])], &[], "Undriven p1 p"),
-    (&[(true, "", &[0, 1]), (false, "", &[1, 0])], &[], "accepted"),
-    (&[(true, "", &[0, 1]), (false, "", &[1, 2])], &[], "Undriven p1 p"),
+    (
+        &[(true, "", &[0, 1]), (false, "", &[1, 0])],
+        &[],
+        "accepted",
+    ),
+    (
+        &[(true, "", &[0, 1]), (false, "", &[1, 2])],
+        &[],
+        "Undriven p1 p",
+    ),
     (
         &[(false, "", &[4])],
         &[(Cell::Not, &[Some(3)], None)],

@@ -3,8 +3,8 @@
 ghost use Rattle.std.specs.Prelude.{IsTrue};
 ghost use Rattle.lg_circ.specs.Bounds.{is_on_sheet};
 
-use lg_flatten::*;
 use lg_circ::{Attrs, Comp, Point, Sheet};
+use lg_flatten::*;
 use lg_netlist::Cell;
 use lg_text::Text;
 use sqlite_items::Items;

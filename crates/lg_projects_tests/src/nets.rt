@@ -3,8 +3,8 @@
 ghost use Rattle.std.specs.Prelude.{◌≡◌, ◌<◌, ◌+◌, ◌*◌, ◌^◌, length, IsTrue};
 ghost use Rattle.lg_circ.specs.Bounds.{is_on_sheet};
 
-use lg_nets::*;
 use lg_circ::{Point, Wire};
+use lg_nets::*;
 use std::alloc::{AllocError, Global};
 use std::test::Fail;
 

@@ -1,6 +1,6 @@
-use lg_vectors::*;
 use lg_text::Text;
 use lg_value::{Bit, Word};
+use lg_vectors::*;
 use sqlite_items::Items;
 use std::alloc::Global;
 use std::test::Fail;

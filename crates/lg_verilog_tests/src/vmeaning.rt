@@ -1,9 +1,9 @@
 //! What a caller may ask of a valid module, a register of four bits. Modules that run on rows, and those that break a rule,
 //! are cases of `lg_cases`.
 
-use lg_vmeaning::{Valid, valid};
 use lg_verilog::read_module;
-use lg_vrules::Memory;
+use lg_vmeaning::{Valid, valid};
+use lg_vtree::Memory;
 use sqlite_items::Items;
 use std::alloc::Global;
 use std::process::Abort;

@@ -1,7 +1,1 @@
 pub mod ShiftLemmas
-pub mod ExprInduction
-pub mod OperatorLemmas
-pub mod TermLemmas
-pub mod FitLemmas
-pub mod ResolvedLemmas
-pub mod ReadLemmas

@@ -1,14 +1,17 @@
 -- The numbers of expressions over places, as they are computed.
-use Rattle.std.specs.Prelude.{ℕ, ◌+◌, ◌-◌, ◌*◌, ◌/◌, ◌%◌, ◌^◌, ◌==◌, nat_lt, min, List, [], Option, unwrap_or, fold, slice_index_or, if◌then◌else◌, bit_and, bit_or, bit_xor}
+use Rattle.std.specs.Prelude.{ℕ, ◌+◌, ◌-◌, ◌*◌, ◌/◌, ◌%◌, ◌^◌, ◌==◌, nat_lt, min, Bool, true, false, List, [], Option, unwrap_or, fold, slice_index_or, if◌then◌else◌, bit_and, bit_or, bit_xor}
 use Rattle.lg_vtree.specs.declared.expr.Operator.{Operator}
 use Rattle.lg_vtree.specs.declared.expr.Operator.TheVariants as operator
 use Rattle.lg_vtree.specs.declared.expr.Expr.{Expr, fold-Expr}
 use Rattle.lg_vtree.specs.declared.expr.Expr.TheOpen.{Expr-F}
-use Rattle.lg_vrules.specs.Rules.{operator_width}
 use Rattle.lg_vmachine.specs.declared.term.Term.{Term, fold-Term}
 use Rattle.lg_vmachine.specs.declared.term.Term.TheVariants as term
 use Rattle.lg_vmachine.specs.declared.term.Term.TheOpen.{Term-F}
-use Rattle.lg_vmachine.specs.Meaning.{number_of_test}
+
+-- 1 for yes and 0 for no
+abbrev pub number_of_test : Bool → ℕ
+number_of_test true = 1
+number_of_test false = 0
 
 -- an operation that is computed in 128 bits and then cut to a width
 abbrev pub wide_operation : Operator → ℕ → ℕ → ℕ → ℕ

@@ -1,13 +1,11 @@
-//! The numbers of expressions, and equations that are ready to be computed.
+//! Equations over places, ready to be computed, and what an edge stores.
 #![tactic(auto)]
 
 mod arithmetic;
 mod machine;
 mod regs;
-mod resolve;
 mod term;
 
 pub use machine::{Machine, Write, put_word};
 pub use regs::Regs;
-pub use resolve::{Resolved, Resolver};
 pub use term::Term;

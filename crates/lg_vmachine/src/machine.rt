@@ -5,7 +5,7 @@ ghost use Rattle.lg_vmachine.specs.Machine.{run, next_number, written, put_words
 
 use crate::regs::Regs;
 use crate::term::Term;
-use lg_vrules::Memory;
+use lg_vtree::Memory;
 use sqlite_items::Items;
 use std::alloc::{AllocError, Global};
 

@@ -14,7 +14,7 @@ use Rattle.lg_vrules.specs.Known.{KnowsThings, width_under}
 use Rattle.lg_vrules.specs.declared.places.Places.{Places}
 use Rattle.lg_vrules.specs.Places.{KnowsPlaces, place_under, place_from}
 use Rattle.lg_vrules.proofs.IndexLemmas.{width_is}
-use Rattle.lg_vmachine.specs.Resolved.{resolved, place_or_0}
+use Rattle.lg_vresolve.specs.Resolved.{resolved, place_or_0}
 use Rattle.lg_vmachine.specs.declared.term.Term.{Term}
 use Rattle.lg_vmachine.specs.declared.machine.Write.{Write}
 use Rattle.lg_vmeaning.specs.declared.ports.PortLine.{PortLine}

@@ -16,13 +16,13 @@ use Rattle.lg_vrules.specs.Rules.{is_of, is_no_clock, assign_uses, stmt_uses, re
 use Rattle.lg_vrules.proofs.IndexLemmas.{narrow_widths}
 use Rattle.lg_vrules.proofs.RuleLemmas.{rules_kept}
 use Rattle.lg_vmachine.specs.Kept.{Kept}
-use Rattle.lg_vmachine.specs.Meaning.{Valuation, number_of}
+use Rattle.lg_vresolve.specs.Meaning.{Valuation, number_of}
 use Rattle.lg_vmachine.specs.Terms.{term_number}
 use Rattle.lg_vmachine.specs.Machine.{next_number, written, put_word, put_words, stored_by}
 use Rattle.lg_vmachine.specs.declared.term.Term.{Term}
 use Rattle.lg_vmachine.specs.declared.machine.Write.{Write}
-use Rattle.lg_vmachine.proofs.FitLemmas.{fits}
-use Rattle.lg_vmachine.proofs.ReadLemmas.{reads_readable}
+use Rattle.lg_vresolve.proofs.FitLemmas.{fits}
+use Rattle.lg_vresolve.proofs.ReadLemmas.{reads_readable}
 use Rattle.lg_vmeaning.specs.Compiled.{term_of, next_of, write_of, machine_of}
 use Rattle.lg_vmeaning.specs.Rows.{stmt_for, number_after, words_after, after_edge}
 use Rattle.lg_vmeaning.specs.Solution.{AreNumbers, AreMemories, IsOf, IsTheSolution}

@@ -13,7 +13,7 @@ use Rattle.lg_vrules.specs.declared.names.Sort.TheVariants as sort
 use Rattle.lg_vrules.specs.declared.names.Thing.{Thing}
 use Rattle.lg_vrules.specs.Things.{range_width, things, width_of, lines_of, names_of, is_input, is_reg, is_readable}
 use Rattle.lg_vmachine.specs.Kept.{Kept}
-use Rattle.lg_vmachine.specs.Meaning.{Valuation, number_of}
+use Rattle.lg_vresolve.specs.Meaning.{Valuation, number_of}
 use Rattle.lg_vmeaning.specs.Solution.{AreNumbers, IsTheSolution}
 use Rattle.lg_vmeaning.specs.InOrder.{IsIn, AgreeAt, AreWithin, AreInOrder, AllDiffer, IsGiven, AreOrdered, sources}
 

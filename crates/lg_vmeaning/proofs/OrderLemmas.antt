@@ -9,10 +9,10 @@ use Rattle.lg_vrules.specs.Things.{width_of}
 use Rattle.lg_vrules.specs.Depends.{names_read}
 use Rattle.lg_vrules.specs.Rules.{expr_width}
 use Rattle.lg_vmachine.specs.Kept.{Kept}
-use Rattle.lg_vmachine.specs.Meaning.{memory_words}
+use Rattle.lg_vresolve.specs.Meaning.{memory_words}
 use Rattle.lg_vmeaning.specs.InOrder.{IsIn, AreInOrder}
-use Rattle.lg_vmachine.proofs.TermLemmas.{reads_only}
-use Rattle.lg_vmachine.proofs.FitLemmas.{fits}
+use Rattle.lg_vresolve.proofs.TermLemmas.{reads_only}
+use Rattle.lg_vresolve.proofs.FitLemmas.{fits}
 
 -- an assign stands at a place
 abbrev pub At : List Assign → ℕ → Assign → Type 0

@@ -5,7 +5,7 @@ use Rattle.std.proofs.lemmas.List.{drop_more, drop_all}
 use Rattle.lg_vtree.specs.declared.module.Module.{Module}
 use Rattle.lg_vrules.specs.Things.{lines_of, names_of, is_input, is_output}
 use Rattle.lg_vmachine.specs.Kept.{Kept}
-use Rattle.lg_vmachine.specs.Meaning.{Valuation}
+use Rattle.lg_vresolve.specs.Meaning.{Valuation}
 use Rattle.lg_vmachine.specs.Machine.{run, stored_by}
 use Rattle.lg_vmachine.specs.declared.machine.Machine.{Machine}
 use Rattle.lg_vmeaning.specs.declared.ports.PortLine.{PortLine}

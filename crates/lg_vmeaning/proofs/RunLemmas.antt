@@ -25,12 +25,12 @@ use Rattle.lg_vrules.proofs.IndexLemmas.{narrow_widths}
 use Rattle.lg_vrules.proofs.NameLemmas.{both}
 use Rattle.lg_vmachine.specs.Kept.{Kept}
 use Rattle.lg_vmachine.specs.Machine.{run}
-use Rattle.lg_vmachine.specs.Meaning.{Valuation, memory_words, number_of}
-use Rattle.lg_vmachine.specs.Resolved.{place_or_0}
+use Rattle.lg_vresolve.specs.Meaning.{Valuation, memory_words, number_of}
+use Rattle.lg_vresolve.specs.Resolved.{place_or_0}
 use Rattle.lg_vmachine.specs.Terms.{term_number}
 use Rattle.lg_vmachine.specs.declared.term.Term.{Term}
-use Rattle.lg_vmachine.proofs.ReadLemmas.{reads_readable}
-use Rattle.lg_vmachine.proofs.ResolvedLemmas.{resolved_is}
+use Rattle.lg_vresolve.proofs.ReadLemmas.{reads_readable}
+use Rattle.lg_vresolve.proofs.ResolvedLemmas.{resolved_is}
 use Rattle.lg_vmachine.proofs.ShiftLemmas.{below_more}
 use Rattle.lg_vmeaning.specs.Solution.{AreNumbers, IsOf, IsTheSolution}
 use Rattle.lg_vmeaning.specs.InOrder.{IsIn, AllDiffer, sources, ordered}

@@ -23,7 +23,7 @@ use Rattle.lg_vrules.specs.Things.{range_width, port_sort, port_thing, decl_thin
 use Rattle.lg_vrules.specs.Rules.{is_among, all_differ, constant_fits, constant_of, last_place, decl_fits, fill_fits, word_fits, assign_fits, stmt_fits, fills_of, words_of, stmts_of, first_broken}
 use Rattle.lg_vrules.proofs.NameLemmas.{neither, flip, not_true}
 use Rattle.lg_vrules.proofs.RuleLemmas.{rules_kept}
-use Rattle.lg_vmachine.proofs.FitLemmas.{constant_parts}
+use Rattle.lg_vresolve.proofs.FitLemmas.{constant_parts}
 use Rattle.lg_vmeaning.specs.Solution.{AreNumbers, AreMemories, IsOf}
 use Rattle.lg_vmeaning.specs.Rows.{filled_with, with_word, start_memory, start_number, start}
 use Rattle.lg_vmeaning.proofs.NameLemmas.{found, firsts, lines_in}

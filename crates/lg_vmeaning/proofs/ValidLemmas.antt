@@ -19,13 +19,13 @@ use Rattle.lg_vrules.proofs.GraphLemmas.{assign_at, place_tells, same_place}
 use Rattle.lg_vrules.proofs.IndexLemmas.{narrow_widths}
 use Rattle.lg_vrules.proofs.RuleLemmas.{KeepsRules, rules_kept, assigned_differ}
 use Rattle.lg_vmachine.specs.Kept.{Kept}
-use Rattle.lg_vmachine.specs.Meaning.{Valuation, memory_words}
+use Rattle.lg_vresolve.specs.Meaning.{Valuation, memory_words}
 use Rattle.lg_vmeaning.specs.Solution.{AreNumbers, AreMemories, IsOf, IsTheSolution}
 use Rattle.lg_vmeaning.specs.InOrder.{IsIn, AllDiffer, IsGiven, AreOrdered, sources, ordered}
 use Rattle.lg_vmeaning.proofs.InOrderLemmas.{in_either, solved, given_by, TheSolution-ordered}
 use Rattle.lg_vmeaning.proofs.NameLemmas.{found, IsLine, at_line, at_lines, in_among, line_found, named_line, found_in, found_passes, differ_in}
 use Rattle.lg_vmeaning.proofs.OrderLemmas.{At, KeepOrder, in_order}
-use Rattle.lg_vmachine.proofs.ReadLemmas.{reads_readable}
+use Rattle.lg_vresolve.proofs.ReadLemmas.{reads_readable}
 
 -- lists
 

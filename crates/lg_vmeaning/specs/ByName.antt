@@ -4,8 +4,8 @@ use Rattle.lg_vtree.specs.declared.expr.Expr.{Expr}
 use Rattle.lg_vtree.specs.declared.module.Stmt.{Stmt}
 use Rattle.lg_vrules.specs.Known.{width_under}
 use Rattle.lg_vrules.specs.Places.{place_under}
-use Rattle.lg_vmachine.specs.Resolved.{resolved}
-use Rattle.lg_vmachine.specs.declared.resolve.Resolver.{Resolver}
+use Rattle.lg_vresolve.specs.Resolved.{resolved}
+use Rattle.lg_vresolve.specs.declared.resolve.Resolver.{Resolver}
 use Rattle.lg_vmachine.specs.declared.term.Term.{Term}
 use Rattle.lg_vmeaning.specs.declared.stores.Stores.{Stores}
 

@@ -9,8 +9,8 @@ use Rattle.lg_vrules.specs.Order.{IsOrder}
 use Rattle.lg_vrules.specs.Things.{width_of, names_of, is_input, is_output, is_reg, is_memory}
 use Rattle.lg_vrules.specs.Places.{place_from}
 use Rattle.lg_vmachine.specs.Kept.{Kept}
-use Rattle.lg_vmachine.specs.Meaning.{Valuation}
-use Rattle.lg_vmachine.specs.Resolved.{resolved, place_or_0}
+use Rattle.lg_vresolve.specs.Meaning.{Valuation}
+use Rattle.lg_vresolve.specs.Resolved.{resolved, place_or_0}
 use Rattle.lg_vmachine.specs.declared.term.Term.{Term}
 use Rattle.lg_vmachine.specs.declared.machine.Machine.{Machine}
 use Rattle.lg_vmachine.specs.declared.machine.Write.{Write}

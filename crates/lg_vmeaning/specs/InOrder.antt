@@ -6,7 +6,7 @@ use Rattle.lg_vtree.specs.declared.module.Assign.{Assign}
 use Rattle.lg_vtree.specs.declared.module.Module.{Module}
 use Rattle.lg_vrules.specs.Things.{width_of, lines_of, names_of, is_input, is_reg, is_readable}
 use Rattle.lg_vmachine.specs.Kept.{Kept}
-use Rattle.lg_vmachine.specs.Meaning.{Valuation, number_of}
+use Rattle.lg_vresolve.specs.Meaning.{Valuation, number_of}
 
 -- the name is one of these
 abbrev pub IsIn : List (List ℕ) → List ℕ → Type 0

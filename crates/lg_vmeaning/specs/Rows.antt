@@ -13,7 +13,7 @@ use Rattle.lg_vtree.specs.declared.module.Module.{Module}
 use Rattle.lg_vrules.specs.Rules.{stmts_of, fills_of, words_of, stored_name}
 use Rattle.lg_vrules.specs.Things.{names_of, is_output, is_reg, is_memory}
 use Rattle.lg_vmachine.specs.Kept.{Kept}
-use Rattle.lg_vmachine.specs.Meaning.{Valuation, number_of}
+use Rattle.lg_vresolve.specs.Meaning.{Valuation, number_of}
 use Rattle.lg_vmeaning.specs.Solution.{IsTheSolution}
 
 -- the number that fills a memory

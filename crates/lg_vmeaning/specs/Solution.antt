@@ -7,7 +7,7 @@ use Rattle.lg_vtree.specs.declared.module.Module.{Module}
 use Rattle.lg_vrules.specs.Rules.{last_place}
 use Rattle.lg_vrules.specs.Things.{sort_of, lines_of, names_of, is_input, is_output, is_reg, is_memory, is_readable}
 use Rattle.lg_vmachine.specs.Kept.{Kept}
-use Rattle.lg_vmachine.specs.Meaning.{Valuation, number_of}
+use Rattle.lg_vresolve.specs.Meaning.{Valuation, number_of}
 
 -- a number for each of these names, which its width can hold
 abbrev pub AreNumbers : List (List ℕ × ℕ) → List ℕ → Type 0

@@ -4,8 +4,8 @@ ghost use Rattle.std.specs.Prelude.{◌≡◌, map, IfOk};
 ghost use Rattle.lg_vrules.specs.Things.{names_of};
 ghost use Rattle.lg_vmeaning.specs.Ports.{is_kept_as};
 
-use lg_vtree::Module;
-use lg_vrules::{Memory, Sort, thing_of_decl};
+use lg_vrules::{Sort, thing_of_decl};
+use lg_vtree::{Memory, Module};
 use std::alloc::Global;
 
 /// How a number is kept.

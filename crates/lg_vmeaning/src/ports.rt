@@ -7,8 +7,8 @@ ghost use Rattle.lg_vmeaning.specs.Ports.{is_going, port_line, port_lines};
 ghost use Rattle.lg_vmeaning.specs.Solution.{AreNumbers};
 
 use lg_text::Text;
-use lg_vtree::{Direction, Module, Port};
-use lg_vrules::{Memory, Sort, sort_of_port};
+use lg_vrules::{Sort, sort_of_port};
+use lg_vtree::{Direction, Memory, Module, Port};
 use sqlite_items::Items;
 use std::alloc::{AllocError, Global};
 

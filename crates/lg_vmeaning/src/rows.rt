@@ -9,7 +9,7 @@ ghost use Rattle.lg_vmeaning.specs.Compiled.{IsStep};
 use crate::ports::are_numbers;
 use crate::valid_module::Valid;
 use lg_vmachine::Regs;
-use lg_vrules::Memory;
+use lg_vtree::Memory;
 use sqlite_items::Items;
 use std::alloc::Global;
 

@@ -6,9 +6,9 @@ ghost use Rattle.lg_vmeaning.specs.Rows.{start, start_number};
 ghost use Rattle.lg_vmeaning.specs.Starting.{filled_memory, filled_by, with_word_by};
 
 use crate::kept_names::{Storage, kept_names};
-use lg_vtree::{Decl, Fill, Module, Word};
 use lg_vmachine::{Regs, put_word};
-use lg_vrules::{Memory, Places, filled_names, fills, words};
+use lg_vrules::{Places, filled_names, fills, words};
+use lg_vtree::{Decl, Fill, Memory, Module, Word};
 use sqlite_items::{Items, at};
 use std::alloc::{AllocError, Global};
 

@@ -6,9 +6,10 @@ ghost use Rattle.lg_vrules.specs.Places.{place_under};
 ghost use Rattle.lg_vmeaning.specs.Compiled.{next_by, write_by};
 ghost use Rattle.lg_vmeaning.specs.ByName.{term_by, stmt_under};
 
-use lg_vtree::Stmt;
-use lg_vmachine::{Resolver, Term, Write};
-use lg_vrules::{Memory, Places};
+use lg_vmachine::{Term, Write};
+use lg_vresolve::Resolver;
+use lg_vrules::Places;
+use lg_vtree::{Memory, Stmt};
 use sqlite_items::{Items, at};
 use std::alloc::Global;
 

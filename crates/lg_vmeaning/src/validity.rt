@@ -7,8 +7,8 @@ ghost use Rattle.lg_vmeaning.specs.declared.validity.MeanFault.TheVariants.{Memo
 
 use crate::valid_module::Valid;
 use lg_text::Text;
-use lg_vtree::{Assign, Module};
-use lg_vrules::{Dependence, Memory, RuleFault, assign_order, checked_names};
+use lg_vrules::{Dependence, RuleFault, assign_order, checked_names};
+use lg_vtree::{Assign, Memory, Module};
 use std::alloc::{AllocError, Global};
 
 /// Why a module is not valid.

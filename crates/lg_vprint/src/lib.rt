@@ -2,10 +2,9 @@
 #![tactic(auto)]
 
 mod expr_printing;
-mod fault;
 mod law;
 mod printing;
 
-pub use fault::Memory;
 pub use law::printed_text;
+pub use lg_vtree::Memory;
 pub use printing::print;

@@ -7,9 +7,8 @@ ghost use Rattle.lg_vtree.specs.Printed.{range_text, direction_text, port_text, 
 ghost use Rattle.lg_vtree.specs.Grammar.{is_token, port_tokens, decl_tokens, fill_tokens, word_tokens, init_tokens, assign_tokens, stmt_tokens, edge_tokens, decl_range, is_high, IsTree, IsModuleText};
 
 use crate::expr_printing::{put, put_constant, put_expr, put_number};
-use crate::fault::Memory;
 use lg_vtree::{
-    Assign, Decl, Direction, Edge, EdgeKind, Fill, Init, Module, Port, Range, Stmt, Word,
+    Assign, Decl, Direction, Edge, EdgeKind, Fill, Init, Memory, Module, Port, Range, Stmt, Word,
 };
 use std::alloc::{AllocError, Global};
 

@@ -14,7 +14,7 @@ use Rattle.lg_vtree.specs.Printed.{operator_text}
 use Rattle.lg_vtree.specs.Grammar.{Token, Fixed, Named, Number, Sized, form_tokens, expr_tokens}
 use Rattle.lg_vtree.specs.Depth.{greatest, form_depth, depth}
 use Rattle.lg_vread.specs.Reading.{◌>>=◌, is_at, tail, after, name_at, number_at, operator_at, many_at, not_at, binary_at, choice_at, operation_at, other_at, join_at, place_at, item_at, index_at, named_at, plain_at, paren_at, form_at, expr_at}
-use Rattle.lg_vtree.proofs.Unrolled.{tokens-roll, tokens-Const, tokens-Whole, tokens-Place, tokens-Part, tokens-Item, tokens-Join, tokens-Not, tokens-Binary, tokens-Choice, depth-Item, depth-Join, depth-Not, depth-Binary, depth-Choice, others_tokens, join_spelled, some_depth}
+use Rattle.lg_vtree.proofs.Unrolled.{tokens-roll, depth-roll, tokens-Const, tokens-Whole, tokens-Place, tokens-Part, tokens-Item, tokens-Join, tokens-Not, tokens-Binary, tokens-Choice, depth-Item, depth-Join, depth-Not, depth-Binary, depth-Choice, others_tokens, join_spelled, some_depth}
 use Rattle.lg_vread.proofs.Steps.{bind_some, bind_at, chosen, at_takes, after_takes, name_takes, number_takes, operator_takes, operator_again, operator_no_question, operator_no_bracket, part, Taken, IsReader, many_takes, all_again}
 
 -- what the first token of an expression is not

@@ -13,9 +13,9 @@ use Rattle.lg_vrules.specs.declared.names.Thing.{Thing}
 use Rattle.lg_vrules.specs.Things.{range_width, things, sort_of, names_of, lines_of, is_output, is_reg, is_memory, is_readable}
 use Rattle.lg_vrules.specs.Rules.{is_of, reads_declared, first_broken}
 use Rattle.lg_vmachine.specs.Kept.{Kept}
-use Rattle.lg_vmachine.specs.Meaning.{Valuation, number_of}
-use Rattle.lg_vmachine.proofs.TermLemmas.{reads_only}
-use Rattle.lg_vmachine.proofs.ReadLemmas.{reads_readable}
+use Rattle.lg_vresolve.specs.Meaning.{Valuation, number_of}
+use Rattle.lg_vresolve.proofs.TermLemmas.{reads_only}
+use Rattle.lg_vresolve.proofs.ReadLemmas.{reads_readable}
 use Rattle.lg_vmeaning.specs.InOrder.{IsIn}
 use Rattle.lg_vmeaning.specs.Rows.{stmt_for, number_after, words_after, after_edge, AreRows}
 use Rattle.lg_vmeaning.specs.Solution.{AgreeOn}

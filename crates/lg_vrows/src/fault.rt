@@ -6,9 +6,9 @@ ghost use Rattle.lg_vrows.specs.declared.fault.RowsFault.TheVariants.{Memory as 
 
 use lg_text::Text;
 use lg_vectors::VectorFault;
-use lg_vread::ReadFault;
 use lg_vmeaning::MeanFault;
-use lg_vrules::Memory;
+use lg_vread::ReadFault;
+use lg_vtree::Memory;
 use std::alloc::{AllocError, AllocFailed};
 
 /// Why a text gives no valid module.

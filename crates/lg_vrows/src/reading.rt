@@ -4,8 +4,8 @@ ghost use Rattle.std.specs.Prelude.{IfOk, IfErr};
 ghost use Rattle.lg_vrows.specs.Due.{IsValidText, IsModuleFault};
 
 use crate::fault::ModuleFault;
-use lg_vread::read_module;
 use lg_vmeaning::{Valid, valid};
+use lg_vread::read_module;
 use std::alloc::Global;
 
 /// The valid module that the bytes are a text of.

@@ -7,10 +7,10 @@ ghost use Rattle.lg_vrules.specs.Broken.{IsBroken};
 ghost use Rattle.lg_vrules.specs.declared.fault.RuleFault.TheVariants.{Broken};
 
 use crate::divisors::are_divided_safely;
-use crate::fault::{Memory, RuleFault};
+use crate::fault::RuleFault;
 use crate::names::Names;
 use crate::rules::{are_narrow, ports_are_named};
-use lg_vtree::Module;
+use lg_vtree::{Memory, Module};
 use std::alloc::Global;
 
 /// What the names of a module stand for, where it keeps the seven rules; else the first rule that it breaks.

@@ -7,11 +7,10 @@ ghost use Rattle.lg_vrules.specs.Depends.{names_read};
 ghost use Rattle.lg_vrules.specs.Places.{place_under, place_list, places_of, first_marked_from};
 ghost use Rattle.lg_vrules.specs.Order.{IsDependence};
 
-use crate::fault::Memory;
 use crate::once::assigned_names;
 use crate::places::Places;
 use lg_graph::sort;
-use lg_vtree::{Assign, Expr, Module, Name};
+use lg_vtree::{Assign, Expr, Memory, Module, Name};
 use sqlite_items::Items;
 use std::alloc::{AllocError, Global};
 

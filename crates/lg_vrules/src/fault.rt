@@ -3,23 +3,7 @@
 ghost use Rattle.std.specs.Prelude.{◌≡◌};
 ghost use Rattle.lg_vrules.specs.declared.fault.RuleFault.TheVariants.{Memory as NoMemory};
 
-use std::alloc::{AllocError, AllocFailed};
-
-/// There was no memory.
-#[derive(Clone, Copy, Debug, PartialEq, Eq)]
-pub struct Memory;
-
-impl From<AllocError> for Memory {
-    fn from(_e: AllocError) -> Memory {
-        Memory
-    }
-}
-
-impl<T: Drop> From<AllocFailed<T>> for Memory {
-    fn from(_e: AllocFailed<T>) -> Memory {
-        Memory
-    }
-}
+use lg_vtree::Memory;
 
 /// Why a module does not pass.
 #[derive(Clone, Copy, Debug, PartialEq, Eq)]

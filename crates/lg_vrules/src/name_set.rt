@@ -4,7 +4,7 @@ ghost use Rattle.std.specs.Prelude.{◌≡◌, IfOk, map};
 ghost use Rattle.lg_vrules.specs.Rules.{is_among};
 ghost use Rattle.lg_vrules.specs.Known.{IsSet, KnowsNames, holds};
 
-use crate::fault::Memory;
+use lg_vtree::Memory;
 use std::alloc::Global;
 use std::collections::BTreeSet;
 

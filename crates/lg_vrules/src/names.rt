@@ -4,8 +4,7 @@ ghost use Rattle.std.specs.Prelude.{◌≡◌, IfOk, codes};
 ghost use Rattle.lg_vrules.specs.Known.{IsIndex, Adds, under, sort_under};
 ghost use Rattle.lg_vrules.specs.Things.{port_sort, port_thing, decl_thing};
 
-use crate::fault::Memory;
-use lg_vtree::{Decl, Direction, Module, Name, Port};
+use lg_vtree::{Decl, Direction, Memory, Module, Name, Port};
 use std::alloc::Global;
 use std::collections::BTreeMap;
 

@@ -6,11 +6,10 @@ ghost use Rattle.lg_vrules.specs.Known.{sort_under, holds, is_role};
 ghost use Rattle.lg_vrules.specs.Things.{things, port_thing, decl_thing, is_assignable, is_reg, is_memory};
 ghost use Rattle.lg_vrules.specs.Rules.{is_of, has_each, assigned, stored_name, are_assigned_once, is_clocked, fill_is_whole, are_stored_once, are_filled_once};
 
-use crate::fault::Memory;
 use crate::name_set::NameSet;
 use crate::names::{Names, Sort, sort_of_port, thing_of_decl};
 use crate::rules::{fills, stmts};
-use lg_vtree::{Assign, Decl, Fill, Module, Name, Port, Stmt};
+use lg_vtree::{Assign, Decl, Fill, Memory, Module, Name, Port, Stmt};
 use std::alloc::Global;
 
 /// What a line of a module gives its numbers: an `assign`, a statement or a fill.

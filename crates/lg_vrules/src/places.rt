@@ -4,7 +4,7 @@ ghost use Rattle.std.specs.Prelude.{◌≡◌, true, map, IfOk};
 ghost use Rattle.lg_vrules.specs.Rules.{all_differ};
 ghost use Rattle.lg_vrules.specs.Places.{place_under, KnowsPlaces};
 
-use crate::fault::Memory;
+use lg_vtree::Memory;
 use std::alloc::Global;
 use std::collections::BTreeMap;
 

@@ -18,7 +18,7 @@ pub tokens-roll : (f : Expr-F Expr) (e : Expr) → roll-Expr f ≡ e → expr_to
 unfolding expr_tokens
 tokens-roll f e r = ap (λ x. fold-Expr (List Token) form_tokens x) (sym r) ∙ fold-roll-Expr (List Token) form_tokens f
 
-depth-roll : (f : Expr-F Expr) (e : Expr) → roll-Expr f ≡ e → depth e ≡ form_depth (Rattle.lg_vtree.specs.declared.expr.Expr.TheFolds.map-Expr _ ℕ depth f)
+pub depth-roll : (f : Expr-F Expr) (e : Expr) → roll-Expr f ≡ e → depth e ≡ form_depth (Rattle.lg_vtree.specs.declared.expr.Expr.TheFolds.map-Expr _ ℕ depth f)
 unfolding depth
 depth-roll f e r = ap (λ x. fold-Expr ℕ form_depth x) (sym r) ∙ fold-roll-Expr ℕ form_depth f
 

@@ -3,7 +3,7 @@ use Rattle.std.specs.Prelude.{filter_map, slice_get}
 use Rattle.std.proofs.lemmas.List.{map-append}
 use Rattle.std.proofs.lemmas.Option.{slice_get-get_or}
 use Rattle.lg_vtree.specs.declared.module.Assign.{Assign}
-use Rattle.lg_vmachine.specs.declared.resolve.Resolved.{Resolved}
+use Rattle.lg_vresolve.specs.declared.resolve.Resolved.{Resolved}
 use Rattle.lg_vmachine.specs.declared.term.Term.{Term}
 use Rattle.lg_vmeaning.specs.ByName.{term_by}
 use Rattle.lg_vmeaning.proofs.CompiledLemmas.{ordered_more}

@@ -1,6 +1,6 @@
 use Rattle.std.proofs.Common.{◌≡◌, map, take}
 use Rattle.lg_vrules.specs.Places.{place_under}
-use Rattle.lg_vmachine.specs.Resolved.{place_or_0}
+use Rattle.lg_vresolve.specs.Resolved.{place_or_0}
 use Rattle.lg_vmeaning.proofs.compiling.places.Given as goal
 
 -- the places so far

@@ -1,7 +1,7 @@
 use Rattle.std.proofs.Common.{subst}
 use Rattle.lg_vtree.specs.declared.module.Module.{Module}
 use Rattle.lg_vrules.specs.Things.{lines_of, is_input}
-use Rattle.lg_vmachine.specs.Meaning.{Valuation}
+use Rattle.lg_vresolve.specs.Meaning.{Valuation}
 use Rattle.lg_vmeaning.specs.Solution.{AreNumbers, IsOf, IsTheSolution}
 use Rattle.lg_vmeaning.proofs.ValidLemmas.{one_solution}
 use Rattle.lg_vmeaning.proofs.valid_module.Valid.order.Goals as goal

@@ -1,6 +1,6 @@
-//! Why a module is not printed.
+//! Why there is no answer.
 
-use std::alloc::AllocError;
+use std::alloc::{AllocError, AllocFailed};
 
 /// There was no memory.
 #[derive(Clone, Copy, Debug, PartialEq, Eq)]
@@ -8,6 +8,12 @@ pub struct Memory;
 
 impl From<AllocError> for Memory {
     fn from(_e: AllocError) -> Memory {
+        Memory
+    }
+}
+
+impl<T: Drop> From<AllocFailed<T>> for Memory {
+    fn from(_e: AllocFailed<T>) -> Memory {
         Memory
     }
 }

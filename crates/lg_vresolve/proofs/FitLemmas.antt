@@ -17,10 +17,10 @@ use Rattle.lg_vrules.specs.Things.{width_of}
 use Rattle.lg_vrules.specs.Rules.{operator_width, is_shift, sum_of, where_, at_most_128, binary_width, choice_width, constant_fits, form_width, expr_width}
 use Rattle.lg_vrules.specs.Depends.{form_names, names_read}
 use Rattle.lg_vmachine.specs.Kept.{Kept}
-use Rattle.lg_vmachine.specs.Meaning.{Valuation, operator_value, joined, memory_words, form_number}
-use Rattle.lg_vmachine.proofs.ExprInduction.{parts, by_forms}
-use Rattle.lg_vmachine.proofs.OperatorLemmas.{operator_within}
-use Rattle.lg_vmachine.proofs.TermLemmas.{AtEach, at_one, at_left, at_right, at_three, names-roll, sized, sized-roll}
+use Rattle.lg_vresolve.specs.Meaning.{Valuation, operator_value, joined, memory_words, form_number}
+use Rattle.lg_vresolve.proofs.ExprInduction.{parts, by_forms}
+use Rattle.lg_vresolve.proofs.OperatorLemmas.{operator_within}
+use Rattle.lg_vresolve.proofs.TermLemmas.{AtEach, at_one, at_left, at_right, at_three, names-roll, sized, sized-roll}
 
 -- a width of at most 128 bits, and a number that it can hold
 pub record IsWithin (w : ℕ) (p : ℕ × ℕ) : Type 0 where

@@ -10,9 +10,9 @@ use Rattle.lg_vrules.specs.declared.names.Sort.{Sort}
 use Rattle.lg_vrules.specs.Things.{is_memory, is_readable}
 use Rattle.lg_vrules.specs.Rules.{is_of, form_reads, reads_declared}
 use Rattle.lg_vrules.specs.Depends.{form_names, names_read}
-use Rattle.lg_vmachine.proofs.ExprInduction.{parts, by_forms}
-use Rattle.lg_vmachine.proofs.TermLemmas.{AtEach, names-roll}
-use Rattle.lg_vmachine.proofs.FitLemmas.{both}
+use Rattle.lg_vresolve.proofs.ExprInduction.{parts, by_forms}
+use Rattle.lg_vresolve.proofs.TermLemmas.{AtEach, names-roll}
+use Rattle.lg_vresolve.proofs.FitLemmas.{both}
 
 at_itself : (P : List ℕ → Type 0) (name : List ℕ) → P name → AtEach P (name ∷ [])
 at_itself P name holds other (zero, here, same) = subst P same holds

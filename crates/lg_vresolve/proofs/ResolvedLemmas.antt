@@ -21,16 +21,16 @@ use Rattle.lg_vmachine.specs.declared.term.Term.TheFolds.{map-Term, fold-roll-Te
 use Rattle.lg_vmachine.specs.declared.term.Term.TheOpen.{Term-F}
 use Rattle.lg_vmachine.specs.declared.term.Term.TheVariants.{rolls-Const, rolls-Number, rolls-Part, rolls-Item, rolls-Join, rolls-Not, rolls-Binary, rolls-Choice}
 use Rattle.lg_vmachine.specs.declared.term.Term.TheVariants as term
-use Rattle.lg_vmachine.specs.declared.resolve.Resolved.{Resolved}
+use Rattle.lg_vresolve.specs.declared.resolve.Resolved.{Resolved}
 use Rattle.lg_vmachine.specs.Kept.{Kept}
-use Rattle.lg_vmachine.specs.Meaning.{Valuation, operator_value, joined, memory_words, form_number, number_of}
+use Rattle.lg_vresolve.specs.Meaning.{Valuation, operator_value, joined, memory_words, form_number, number_of}
 use Rattle.lg_vmachine.specs.Terms.{wide_operation, form_term, term_number}
-use Rattle.lg_vmachine.specs.Resolved.{place_or_0, resolved_part, resolved_join, resolved_not, resolved_binary, resolved_choice, form_resolved, resolved, ArePlaced, IsTermOf}
+use Rattle.lg_vresolve.specs.Resolved.{place_or_0, resolved_part, resolved_join, resolved_not, resolved_binary, resolved_choice, form_resolved, resolved, ArePlaced, IsTermOf}
 use Rattle.lg_vmachine.proofs.ShiftLemmas.{below_more}
-use Rattle.lg_vmachine.proofs.ExprInduction.{parts, by_forms}
-use Rattle.lg_vmachine.proofs.OperatorLemmas.{wide_is}
-use Rattle.lg_vmachine.proofs.TermLemmas.{AtEach, at_one, at_left, at_right, at_three, names-roll, sized, sized-roll}
-use Rattle.lg_vmachine.proofs.FitLemmas.{IsWithin, both, bound, where-some, sum_parts, at_most, part_places, join_within, same_width, all_fit}
+use Rattle.lg_vresolve.proofs.ExprInduction.{parts, by_forms}
+use Rattle.lg_vresolve.proofs.OperatorLemmas.{wide_is}
+use Rattle.lg_vresolve.proofs.TermLemmas.{AtEach, at_one, at_left, at_right, at_three, names-roll, sized, sized-roll}
+use Rattle.lg_vresolve.proofs.FitLemmas.{IsWithin, both, bound, where-some, sum_parts, at_most, part_places, join_within, same_width, all_fit}
 
 module _ (numbers : List ℕ) (memories : List (List ℕ)) where
   abbrev pub computed : Term → ℕ

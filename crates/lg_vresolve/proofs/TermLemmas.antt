@@ -12,8 +12,8 @@ use Rattle.lg_vrules.specs.Things.{width_of}
 use Rattle.lg_vrules.specs.Rules.{operator_width}
 use Rattle.lg_vrules.specs.Depends.{form_names, names_read}
 use Rattle.lg_vmachine.specs.Kept.{Kept}
-use Rattle.lg_vmachine.specs.Meaning.{Valuation, operator_value, joined, memory_words, form_number, number_of}
-use Rattle.lg_vmachine.proofs.ExprInduction.{parts, by_forms}
+use Rattle.lg_vresolve.specs.Meaning.{Valuation, operator_value, joined, memory_words, form_number, number_of}
+use Rattle.lg_vresolve.proofs.ExprInduction.{parts, by_forms}
 
 -- it holds of each of these names
 abbrev pub AtEach : (List ℕ → Type 0) → List (List ℕ) → Type 0

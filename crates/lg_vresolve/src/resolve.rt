@@ -3,11 +3,11 @@
 ghost use Rattle.std.specs.Prelude.{◌≡◌, map, fold, IfOk};
 ghost use Rattle.lg_vrules.specs.Known.{width_under, AreNarrow};
 ghost use Rattle.lg_vrules.specs.Places.{place_under};
-ghost use Rattle.lg_vmachine.specs.Resolved.{resolved, resolved_join, resolved_part, resolved_not, resolved_binary, resolved_choice, place_or_0, IsTermOf};
+ghost use Rattle.lg_vresolve.specs.Resolved.{resolved, resolved_join, resolved_part, resolved_not, resolved_binary, resolved_choice, place_or_0, IsTermOf};
 
-use crate::term::Term;
-use lg_vtree::{Expr, Name, Operator};
-use lg_vrules::{Memory, Names, Places, operator_width};
+use lg_vmachine::Term;
+use lg_vrules::{Names, Places, operator_width};
+use lg_vtree::{Expr, Memory, Name, Operator};
 use sqlite_items::Boxed;
 use std::alloc::{AllocError, Global};
 

@@ -1,6 +1,6 @@
 -- The number of an expression, where each name has a number.
 -- Source: IEEE 1364-2005, 5.1 (operators), 5.2 (operands), 5.4 (widths of expressions).
-use Rattle.std.specs.Prelude.{ℕ, ◌+◌, ◌-◌, ◌*◌, ◌/◌, ◌%◌, ◌^◌, ◌==◌, nat_lt, Bool, true, false, List, [], fold, Option, option_and_then, unwrap_or, slice_get, slice_index_or, if◌then◌else◌, bit_and, bit_or, bit_xor}
+use Rattle.std.specs.Prelude.{ℕ, ◌+◌, ◌-◌, ◌*◌, ◌/◌, ◌%◌, ◌^◌, ◌==◌, nat_lt, List, [], fold, Option, option_and_then, unwrap_or, slice_get, slice_index_or, if◌then◌else◌, bit_and, bit_or, bit_xor}
 use Rattle.std.specs.Int.{bit_at}
 use Rattle.lg_vtree.specs.declared.expr.Operator.{Operator}
 use Rattle.lg_vtree.specs.declared.expr.Operator.TheVariants as operator
@@ -11,15 +11,11 @@ use Rattle.lg_vrules.specs.Things.{width_of, names_of, is_memory}
 use Rattle.lg_vrules.specs.Rules.{operator_width}
 use Rattle.lg_vrules.specs.Places.{place_from}
 use Rattle.lg_vmachine.specs.Kept.{Kept}
+use Rattle.lg_vmachine.specs.Terms.{number_of_test}
 
 -- a number for each name
 abbrev pub Valuation : Type 0
 Valuation = List ℕ → ℕ
-
--- 1 for yes and 0 for no
-abbrev pub number_of_test : Bool → ℕ
-number_of_test true = 1
-number_of_test false = 0
 
 -- the number of an operation between numbers of this width
 abbrev pub operator_value : Operator → ℕ → ℕ → ℕ → ℕ

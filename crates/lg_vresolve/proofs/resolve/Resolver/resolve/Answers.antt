@@ -2,9 +2,9 @@ use Rattle.std.proofs.Common.{◌≡◌}
 use Rattle.std.proofs.lemmas.Result.{IfOk-weaker}
 use Rattle.lg_vrules.specs.Known.{width_under}
 use Rattle.lg_vrules.specs.Places.{place_under}
-use Rattle.lg_vmachine.specs.Resolved.{resolved, IsTermOf}
-use Rattle.lg_vmachine.proofs.ResolvedLemmas.{is_term}
-use Rattle.lg_vmachine.proofs.resolve.Resolver.resolve.Goals as goal
+use Rattle.lg_vresolve.specs.Resolved.{resolved, IsTermOf}
+use Rattle.lg_vresolve.proofs.ResolvedLemmas.{is_term}
+use Rattle.lg_vresolve.proofs.resolve.Resolver.resolve.Goals as goal
 
 pub returns-clause-number : goal.returns-clause-number
 returns-clause-number c =

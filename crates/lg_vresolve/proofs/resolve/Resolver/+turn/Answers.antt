@@ -6,9 +6,9 @@ use Rattle.lg_vtree.specs.declared.expr.Expr.TheVariants.{rolls-Join}
 use Rattle.lg_vtree.specs.declared.expr.Expr.TheVariants as expr
 use Rattle.lg_vrules.specs.Known.{width_under}
 use Rattle.lg_vrules.specs.Places.{place_under}
-use Rattle.lg_vmachine.specs.declared.resolve.Resolved.{Resolved}
-use Rattle.lg_vmachine.specs.Resolved.{resolved, resolved_join, form_resolved}
-use Rattle.lg_vmachine.proofs.resolve.Resolver.+turn.Goals as goal
+use Rattle.lg_vresolve.specs.declared.resolve.Resolved.{Resolved}
+use Rattle.lg_vresolve.specs.Resolved.{resolved, resolved_join, form_resolved}
+use Rattle.lg_vresolve.proofs.resolve.Resolver.+turn.Goals as goal
 
 resolved-Join : (width : List ℕ → ℕ) (place memory : List ℕ → Option ℕ) (a b : Expr) (more : List Expr)
     → fold resolved_join (resolved_join (resolved width place memory a) (resolved width place memory b)) (map (resolved width place memory) more) ≡ resolved width place memory (expr.Join a b more)

@@ -6,8 +6,8 @@ use Rattle.std.proofs.Math.Pow.{mod-mod-pow}
 use Rattle.lg_vtree.specs.declared.expr.Operator.{Operator}
 use Rattle.lg_vtree.specs.declared.expr.Operator.TheVariants as operator
 use Rattle.lg_vrules.specs.Rules.{operator_width, is_shift}
-use Rattle.lg_vmachine.specs.Meaning.{number_of_test, operator_value}
-use Rattle.lg_vmachine.specs.Terms.{wide_operation}
+use Rattle.lg_vresolve.specs.Meaning.{operator_value}
+use Rattle.lg_vmachine.specs.Terms.{number_of_test, wide_operation}
 
 -- a cut to more bits before a cut changes nothing
 pub cut_twice : (n k w : ℕ) → w ≤ k → n % 2 ^ k % 2 ^ w ≡ n % 2 ^ w

@@ -12,11 +12,11 @@ use Rattle.lg_vrules.specs.Rules.{is_of, operator_width, reads_declared, expr_wi
 use Rattle.lg_vrules.specs.Depends.{names_read}
 use Rattle.lg_vrules.specs.Known.{KnowsThings}
 use Rattle.lg_vmachine.specs.Kept.{Kept}
-use Rattle.lg_vmachine.specs.Meaning.{Valuation, memory_words, number_of}
+use Rattle.lg_vresolve.specs.Meaning.{Valuation, memory_words, number_of}
 use Rattle.lg_vmachine.specs.Terms.{term_number}
 use Rattle.lg_vmachine.specs.declared.term.Term.{Term}
 use Rattle.lg_vmachine.specs.declared.term.Term.TheVariants as term
-use Rattle.lg_vmachine.specs.declared.resolve.Resolved.{Resolved}
+use Rattle.lg_vresolve.specs.declared.resolve.Resolved.{Resolved}
 
 -- the place of a name, and 0 of one that has none
 abbrev pub place_or_0 : (List ℕ → Option ℕ) → List ℕ → ℕ

@@ -1,8 +1,8 @@
 use Rattle.std.proofs.Common.{◌≡◌, map, fold, take}
 use Rattle.lg_vrules.specs.Known.{width_under}
 use Rattle.lg_vrules.specs.Places.{place_under}
-use Rattle.lg_vmachine.specs.Resolved.{resolved, resolved_join}
-use Rattle.lg_vmachine.proofs.resolve.Resolver.+turn.Given as goal
+use Rattle.lg_vresolve.specs.Resolved.{resolved, resolved_join}
+use Rattle.lg_vresolve.proofs.resolve.Resolver.+turn.Given as goal
 
 abbrev pub invariant-join_all-loop-expr : goal.invariant-join_all-loop-expr
 invariant-join_all-loop-expr l =
