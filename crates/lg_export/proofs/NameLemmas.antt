@@ -8,11 +8,10 @@ use Rattle.std.specs.Int.{is_in_range}
 use Rattle.std.proofs.lemmas.Bool.{le-leb, leb-true, and_from, and_parts, or_left, or_right, or_cases}
 use Rattle.std.proofs.lemmas.Fmt.{decimal_by_steps, length-decimal-le}
 use Rattle.std.proofs.lemmas.List.Folds.{list_all-append}
-use Rattle.lg_netlist.specs.Names.{name_of_label}
-use Rattle.lg_netlist.proofs.SpelledLemmas.{IsShortName-of_label}
+use Rattle.lg_names.specs.Names.{name_of_label, is_pin_name}
+use Rattle.lg_names.proofs.SpelledLemmas.{IsShortName-of_label}
 use Rattle.lg_vtree.specs.Token.{is_digit_or_score, is_name}
 use Rattle.lg_text.specs.NameByte.{is_name_byte}
-use Rattle.lg_netlist.specs.Valid.{is_pin_name}
 
 -- a letter, a digit or `_`, and at most 298 letters, digits and `_`
 is_name-from_parts : (c d : ℕ) (rest : List ℕ) → is_ascii_alphabetic c ≡ true → is_digit_or_score d ≡ true → list_all is_name_byte rest ≡ true → length rest ≤ 298 → is_name (c ∷ d ∷ rest) ≡ true

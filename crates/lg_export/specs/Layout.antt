@@ -13,7 +13,7 @@ use Rattle.lg_netlist.specs.declared.netlist.PinUse.{PinUse}
 use Rattle.lg_netlist.specs.declared.netlist.Netlist.{Netlist}
 use Rattle.lg_netlist.specs.Cell.{input_width, output_width}
 use Rattle.lg_netlist.specs.Drivers.{first_driver}
-use Rattle.lg_netlist.specs.Names.{name_of_label}
+use Rattle.lg_names.specs.Names.{name_of_label}
 use Rattle.lg_netlist.specs.Static.{input_pins, output_pins}
 use Rattle.lg_vtree.specs.declared.module.Direction.TheVariants.{Input, Output}
 use Rattle.lg_vtree.specs.declared.module.Port.{Port}

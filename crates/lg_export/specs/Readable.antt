@@ -5,7 +5,8 @@ use Rattle.lg_netlist.specs.declared.netlist.PinUse.{PinUse}
 use Rattle.lg_netlist.specs.declared.netlist.Netlist.{Netlist}
 use Rattle.lg_netlist.specs.Acceptance.{is_undriven}
 use Rattle.lg_netlist.specs.Static.{output_pins}
-use Rattle.lg_netlist.specs.Valid.{AreNets, is_pin_name}
+use Rattle.lg_names.specs.Names.{is_pin_name}
+use Rattle.lg_netlist.specs.Valid.{AreNets}
 use Rattle.lg_export.specs.Layout.{attached}
 
 -- a module can spell the pin's name

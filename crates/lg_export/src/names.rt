@@ -1,11 +1,12 @@
 //! The names of the module, its ports and its wires.
 
 ghost use Rattle.std.specs.Prelude.{◌≡◌, ◌++◌, IfOk, codes};
-ghost use Rattle.lg_netlist.specs.Names.{name_of_label};
+ghost use Rattle.lg_names.specs.Names.{name_of_label};
 ghost use Rattle.lg_export.specs.Layout.{input_name, output_name, input_wire, output_wire};
 ghost use Rattle.lg_export.specs.Readable.{IsNamed};
 
-use lg_netlist::{PinUse, name_of_label};
+use lg_names::name_of_label;
+use lg_netlist::PinUse;
 use lg_text::Text;
 use lg_vtree::Name;
 use std::alloc::{AllocError, Global};

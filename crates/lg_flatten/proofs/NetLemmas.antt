@@ -7,7 +7,7 @@ use Rattle.std.proofs.lemmas.Option.{same_Some, none-some, slice_get-map, slice_
 use Rattle.lg_circ.specs.declared.project.Point.{Point}
 use Rattle.lg_circ.specs.declared.project.Wire.{Wire}
 use Rattle.lg_nets.specs.Joined.{Place, place_at, Joined, AreLabels, AreAttached}
-use Rattle.lg_netlist.specs.Numbering.{IsNumbering}
+use Rattle.lg_names.specs.Numbering.{IsNumbering}
 use Rattle.lg_flatten.specs.Flat.{flagged}
 use Rattle.lg_flatten.proofs.BitLemmas.{origin, flagged_from, flagged_as_long, All-flagged}
 

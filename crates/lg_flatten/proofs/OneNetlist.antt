@@ -8,10 +8,10 @@ use Rattle.lg_nets.specs.Joined.{place_at, Joined}
 use Rattle.lg_netlist.specs.declared.netlist.PartUse.{PartUse}
 use Rattle.lg_netlist.specs.declared.netlist.PinUse.{PinUse}
 use Rattle.lg_netlist.specs.declared.netlist.Netlist.{Netlist}
-use Rattle.lg_netlist.specs.Numbering.{IsNumbering}
+use Rattle.lg_names.specs.Numbering.{IsNumbering}
 use Rattle.lg_netlist.specs.Valid.{IsValid}
-use Rattle.lg_netlist.proofs.OneNaming.{one_naming}
-use Rattle.lg_netlist.proofs.OneNumbering.{one_numbering}
+use Rattle.lg_names.proofs.OneNaming.{one_naming}
+use Rattle.lg_names.proofs.OneNumbering.{one_numbering}
 use Rattle.lg_flatten.specs.Uses.{Use, port_points}
 use Rattle.lg_flatten.specs.Flat.{pin_labels, take_nets, flagged, by_port, parts_of, pins_of, IsNetlistOf}
 use Rattle.lg_flatten.proofs.NetLemmas.{one_attached}

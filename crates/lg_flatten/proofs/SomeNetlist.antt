@@ -8,11 +8,11 @@ use Rattle.lg_circ.specs.declared.project.Sheet.{Sheet}
 use Rattle.lg_nets.specs.Joined.{AreLabels, AreAttached}
 use Rattle.lg_nets.proofs.SomeNets.{labels_exist, attached_exist}
 use Rattle.lg_netlist.specs.declared.netlist.Netlist.{Netlist}
-use Rattle.lg_netlist.specs.Names.{AreNames}
-use Rattle.lg_netlist.specs.Numbering.{IsNumbering}
-use Rattle.lg_netlist.proofs.SomeNumbers.{numbers_exist}
-use Rattle.lg_netlist.proofs.SomeNames.{names_exist}
-use Rattle.lg_netlist.proofs.SpelledLemmas.{all_spelled, all_differ, none_differ}
+use Rattle.lg_names.specs.Names.{AreNames}
+use Rattle.lg_names.specs.Numbering.{IsNumbering}
+use Rattle.lg_names.proofs.SomeNumbers.{numbers_exist}
+use Rattle.lg_names.proofs.SomeNames.{names_exist}
+use Rattle.lg_names.proofs.SpelledLemmas.{all_spelled, all_differ, none_differ}
 use Rattle.lg_flatten.specs.declared.role.Role.{Role}
 use Rattle.lg_flatten.specs.declared.role.Role.TheVariants.{Pin, Gate}
 use Rattle.lg_flatten.specs.Uses.{Use, port_points}

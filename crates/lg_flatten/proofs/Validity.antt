@@ -12,8 +12,8 @@ use Rattle.lg_nets.specs.Joined.{place_at}
 use Rattle.lg_netlist.specs.declared.netlist.Cell.TheVariants as cell
 use Rattle.lg_netlist.specs.declared.netlist.PartUse.{PartUse}
 use Rattle.lg_netlist.specs.declared.netlist.PinUse.{PinUse}
-use Rattle.lg_netlist.specs.Names.{AreNames}
-use Rattle.lg_netlist.specs.Valid.{is_pin_name, IsPort, IsFittingPart, IsFittingPin, IsValid}
+use Rattle.lg_names.specs.Names.{AreNames, is_pin_name}
+use Rattle.lg_netlist.specs.Valid.{IsPort, IsFittingPart, IsFittingPin, IsValid}
 use Rattle.lg_netlist.proofs.WidthLemmas.{inputs_have_widths, outputs_have_widths}
 use Rattle.lg_flatten.specs.declared.role.Role.{Role}
 use Rattle.lg_flatten.specs.declared.role.Role.TheVariants.{Pin, Gate}

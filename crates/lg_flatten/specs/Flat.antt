@@ -10,8 +10,8 @@ use Rattle.lg_nets.specs.Joined.{place_at, Joined, AreAttached}
 use Rattle.lg_netlist.specs.declared.netlist.PartUse.{PartUse}
 use Rattle.lg_netlist.specs.declared.netlist.PinUse.{PinUse}
 use Rattle.lg_netlist.specs.declared.netlist.Netlist.{Netlist}
-use Rattle.lg_netlist.specs.Names.{AreNames}
-use Rattle.lg_netlist.specs.Numbering.{IsNumbering}
+use Rattle.lg_names.specs.Names.{AreNames}
+use Rattle.lg_names.specs.Numbering.{IsNumbering}
 use Rattle.lg_flatten.specs.declared.role.Role.{Role}
 use Rattle.lg_flatten.specs.declared.role.Role.TheVariants.{Pin, Gate}
 use Rattle.lg_flatten.specs.Uses.{Use, input_points, port_points}

@@ -8,7 +8,7 @@ ghost use Rattle.lg_flatten.specs.Flat.{takes_net, take_nets, flagged, by_port, 
 use crate::places::{port_count, ports};
 use crate::role::Role;
 use lg_circ::{Comp, Wire};
-use lg_netlist::numbered;
+use lg_names::numbered;
 use lg_nets::sheet_nets;
 use sqlite_items::Items;
 use std::alloc::{AllocError, Global};

@@ -1,12 +1,4 @@
-pub mod OneNumbering
-pub mod OneNaming
-pub mod NumberingLemmas
-pub mod NameLemmas
-pub mod NextLemmas
-pub mod SpelledLemmas
 pub mod PinLemmas
-pub mod SomeNumbers
-pub mod SomeNames
 pub mod DriverLemmas
 pub mod WidthLemmas
 pub mod FirstTwoLemmas

@@ -1,6 +1,3 @@
-pub mod Names
-pub mod NextNumbers
-pub mod Numbering
 pub mod Cell
 pub mod Valid
 pub mod Static

@@ -1,17 +1,13 @@
 -- What every netlist keeps: names that a module can spell, nets that exist, and ports that fit their cells.
-use Rattle.std.specs.Prelude.{◌≡◌, ◌<◌, ◌≤◌, ◌^◌, ◌==◌, ℕ, nat_le, Bool, true, ◌&&◌, ◌||◌, IsTrue, List, map, length, slice_get, slice_index_or, [], Option, IfSome, All}
-use Rattle.std.specs.List.{list_all, IsDistinct}
+use Rattle.std.specs.Prelude.{◌≡◌, ◌<◌, ◌≤◌, ◌^◌, ◌==◌, ℕ, Bool, true, ◌||◌, IsTrue, List, map, length, slice_get, slice_index_or, [], Option, IfSome, All}
+use Rattle.std.specs.List.{IsDistinct}
 use Rattle.std.specs.Str.{bytes_eq}
 use Rattle.lg_netlist.specs.declared.netlist.Cell.{Cell}
 use Rattle.lg_netlist.specs.declared.netlist.Cell.TheVariants.{Not, And, Or}
 use Rattle.lg_netlist.specs.declared.netlist.PartUse.{PartUse}
 use Rattle.lg_netlist.specs.declared.netlist.PinUse.{PinUse}
 use Rattle.lg_netlist.specs.Cell.{input_width, output_width}
-use Rattle.lg_text.specs.NameByte.{is_name_byte}
-
--- 1 to 290 ASCII letters, digits and `_`
-abbrev pub is_pin_name : List ℕ → Bool
-is_pin_name name = nat_le 1 (length name) && nat_le (length name) 290 && list_all is_name_byte name
+use Rattle.lg_names.specs.Names.{is_pin_name}
 
 -- how many inputs a cell takes at least and at most
 abbrev pub least_inputs : Cell → ℕ

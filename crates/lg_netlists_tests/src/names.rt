@@ -1,6 +1,6 @@
 //! Names of pins and numbers of nets.
 
-use lg_netlist::*;
+use lg_names::*;
 use lg_text::Text;
 use std::alloc::{AllocError, Global};
 use std::test::Fail;

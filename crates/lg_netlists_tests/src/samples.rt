@@ -3,9 +3,11 @@
 ghost use Rattle.std.specs.Prelude.{◌≡◌, ◌<◌, ◌≤◌, ◌^◌, ℕ, List, length, map, All, IfOk, IsTrue};
 ghost use Rattle.std.specs.List.{IsDistinct};
 ghost use Rattle.std.specs.Str.{bytes_eq};
-ghost use Rattle.lg_netlist.specs.Valid.{is_pin_name, TakesInputs, AreNets, IsPort, IsFittingPart, IsFittingPin};
+ghost use Rattle.lg_names.specs.Names.{is_pin_name};
+ghost use Rattle.lg_netlist.specs.Valid.{TakesInputs, AreNets, IsPort, IsFittingPart, IsFittingPin};
 
-use lg_netlist::{Cell, Netlist, PartUse, PinUse, pin_names};
+use lg_names::pin_names;
+use lg_netlist::{Cell, Netlist, PartUse, PinUse};
 use lg_text::Text;
 use sqlite_items::Items;
 use std::alloc::{AllocError, Global};

@@ -1,7 +1,7 @@
 -- A circuit's name after `c_` is a name of the subset.
 use Rattle.std.proofs.Common.{◌≡◌, ◌++◌, ◌∙◌, ap, rules}
 use Rattle.std.specs.Prelude.{codes}
-use Rattle.lg_netlist.specs.Names.{name_of_label}
+use Rattle.lg_names.specs.Names.{name_of_label}
 use Rattle.lg_vtree.specs.Token.{is_name}
 use Rattle.lg_export.proofs.NameLemmas.{is_name-circuit}
 use Rattle.lg_export.proofs.names.module_name.Goals as goal

@@ -4,7 +4,7 @@ use Rattle.std.specs.Prelude.{All}
 use Rattle.std.specs.List.{flat_map, zip}
 use Rattle.lg_circ.specs.declared.project.Point.{Point}
 use Rattle.lg_nets.specs.Joined.{AreLabels, AreAttached}
-use Rattle.lg_netlist.specs.Numbering.{IsNumbering}
+use Rattle.lg_names.specs.Numbering.{IsNumbering}
 use Rattle.lg_flatten.specs.Uses.{port_points}
 use Rattle.lg_flatten.specs.Flat.{take_nets, flagged, by_port}
 use Rattle.lg_flatten.proofs.BitLemmas.{flagged_short}

@@ -5,8 +5,7 @@ use Rattle.std.specs.List.{zip, IsDistinct}
 use Rattle.std.specs.Str.{bytes_eq}
 use Rattle.lg_circ.specs.declared.project.Wire.{Wire}
 use Rattle.lg_circ.specs.declared.project.Comp.{Comp}
-use Rattle.lg_netlist.specs.Names.{AreNames}
-use Rattle.lg_netlist.specs.Valid.{is_pin_name}
+use Rattle.lg_names.specs.Names.{AreNames, is_pin_name}
 use Rattle.lg_flatten.specs.declared.role.Role.{Role}
 use Rattle.lg_flatten.specs.Uses.{AreFit}
 use Rattle.lg_flatten.specs.Flat.{pin_labels, parts_of, pins_of, ArePortBits, IsNetlistOf}

@@ -1,5 +1,0 @@
-use Rattle.lg_netlist.proofs.SomeNumbers.{numbers_exist}
-use Rattle.lg_netlist.proofs.law.labels_have_numbers.Goals as goal
-
-pub returns : goal.returns
-returns c = numbers_exist
