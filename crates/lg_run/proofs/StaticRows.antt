@@ -4,16 +4,16 @@ use Rattle.std.specs.Prelude.{nat_lt, MatchBool, All}
 use Rattle.std.specs.List.{AllByRecursion, zip}
 use Rattle.std.proofs.lemmas.Bool.{ltb-false}
 use Rattle.std.proofs.lemmas.List.Elements.{All-head, All-tail}
-use Rattle.lg_circ.specs.declared.project.Project.{Project}
 use Rattle.lg_export.specs.Agreement.{Rows, numbers_of}
 use Rattle.lg_export.specs.Layout.{module_of}
-use Rattle.lg_export.proofs.Agreeing.{words_for, some_rows, from_start}
+use Rattle.lg_export.proofs.Agreeing.{words_for, some_rows, from_start, agrees}
 use Rattle.lg_export.proofs.Declared.{inputs-are}
 use Rattle.lg_export.proofs.Shallow.{shallow}
 use Rattle.lg_netlist.specs.declared.netlist.Netlist.{Netlist}
 use Rattle.lg_netlist.specs.Acceptance.{IsAccepted}
 use Rattle.lg_netlist.specs.Static.{has_no_clock, start_states}
 use Rattle.lg_netlist.specs.Static as static
+use Rattle.lg_vtree.specs.Grammar.{IsModuleText}
 use Rattle.lg_vtree.specs.declared.module.Module.{Module}
 use Rattle.lg_vmeaning.specs.Rows.{start, AreRows}
 use Rattle.lg_vmeaning.specs.Solution.{AreNumbers}
@@ -30,14 +30,9 @@ use Rattle.lg_run.specs.declared.status.Status.{Status}
 use Rattle.lg_run.specs.declared.stop.Refusal.TheVariants.{TooLong}
 use Rattle.lg_run.specs.declared.stop.Stop.TheVariants.{Input}
 use Rattle.lg_run.specs.declared.vrun.TheConstants.{MODULE_LENGTH, ROWS_LENGTH}
-use Rattle.lg_run.specs.Due.{Held, Due, Writes, Stops, IsAgreedText, IsOutputsDue, IsRowsDue, IsValidDue, OnModule, NoModule, IsVrunDue, IsDueFor, IsDue}
-use Rattle.lg_run.specs.OneSheet.{IsBuilt}
+use Rattle.lg_run.specs.Due.{Held, Due, Writes, Stops, IsOutputsDue, IsRowsDue, IsValidDue, OnModule, NoModule, IsVrunDue, IsDueFor, IsDue}
 use Rattle.lg_run.specs.StaticText.{IsStaticText}
 use Rattle.lg_run.specs.Words.{Command, Vrun, command_of}
-use Rattle.lg_run.proofs.OneSheetLemmas.{clockless}
-
-no_clock : (project : Project) (n : Netlist) → IsBuilt project n → has_no_clock n ≡ true
-no_clock project n built = clockless built.sheet (zip built.sheet.comps built.roles) n built.netlist
 
 module _ (n : Netlist) (none : has_no_clock n ≡ true) (accepted : IsAccepted n) where
   abbrev m : Module
@@ -70,33 +65,24 @@ module _ (n : Netlist) (none : has_no_clock n ≡ true) (accepted : IsAccepted n
         printed = printed ∙ ap (rows_text m) same;
       }
 
--- an exported text that is not too long is read as the module of its netlist
-pub read_again : (bytes text : List ℕ) (exported : IsAgreedText bytes text) → length text ≤ 134217728 → IsValidText text (module_of exported.made.netlist)
-read_again bytes text exported fits =
-    let n = exported.made.netlist in
-    let none = no_clock exported.made.project n exported.made.built in
-    record {
-      within = record { text = exported.in_grammar; length = fits; depth = shallow n none exported.made.accepted };
-      valid = exported.agrees.valid;
-    }
+-- a text of the module that is not too long is read as it
+pub read_again : (n : Netlist) (text : List ℕ) → has_no_clock n ≡ true → IsAccepted n → IsModuleText text (module_of n) → length text ≤ 134217728 → IsValidText text (module_of n)
+read_again n text none accepted is_text fits = record { within = record { text = is_text; length = fits; depth = shallow n none accepted }; valid = (agrees n none accepted).valid }
 
-static_rows : (bytes text : List ℕ) (exported : IsAgreedText bytes text) → length text ≤ 134217728 → (m : Module) → IsValidText text m → (rows printed : List ℕ) → IsRowsText m rows printed
-    → IsStaticText exported.made.netlist rows printed
-static_rows bytes text exported fits m valid rows printed is =
-    let n = exported.made.netlist in
-    let none = no_clock exported.made.project n exported.made.built in
-    let same : m ≡ module_of n = one_valid text m (module_of n) valid (read_again bytes text exported fits) in
-    static_text n none exported.made.accepted exported.agrees.valid rows printed (subst (λ (m : Module). IsRowsText m rows printed) same is)
-
--- what is due for an exported text and rows
-module _ (bytes text : List ℕ) (exported : IsAgreedText bytes text) (of_module of_rows rows : List ℕ) (status : Status) (printed : List ℕ) where
+-- what is due for such a text and rows
+module _ (n : Netlist) (text : List ℕ) (none : has_no_clock n ≡ true) (accepted : IsAccepted n) (is_text : IsModuleText text (module_of n)) (of_module of_rows rows : List ℕ) (status : Status) (printed : List ℕ) where
   abbrev Shown : Type 0
-  Shown = IsStaticText exported.made.netlist rows printed
+  Shown = IsStaticText n rows printed
+
+  shown : length text ≤ MODULE_LENGTH → (m : Module) → IsValidText text m → IsRowsText m rows printed → Shown
+  shown fits m valid is =
+      let same : m ≡ module_of n = one_valid text m (module_of n) valid (read_again n text none accepted is_text fits) in
+      static_text n none accepted (agrees n none accepted).valid rows printed (subst (λ (m : Module). IsRowsText m rows printed) same is)
 
   by_rows : length text ≤ MODULE_LENGTH → (m : Module) → IsValidText text m → (long : Bool)
       → MatchBool long (◌≡◌ {A = Due} (Writes status printed) (Stops (Input TooLong) of_rows)) (IsOutputsDue m of_rows rows (Writes status printed)) → Shown
   by_rows fits m valid true h = absurd (cc h)
-  by_rows fits m valid false h = static_rows bytes text exported fits m valid rows printed h.1
+  by_rows fits m valid false h = shown fits m valid h.1
 
   by_module : length text ≤ MODULE_LENGTH → IsValidDue of_module of_rows text (Some rows) (Writes status printed) → Shown
   by_module fits (OnModule m valid h) = by_rows fits m valid (nat_lt ROWS_LENGTH (length rows)) h
@@ -113,7 +99,8 @@ module _ (bytes text : List ℕ) (exported : IsAgreedText bytes text) (of_module
       let on_both = subst (λ (o : Option (List ℕ)). IsVrunDue of_module of_rows o (Some rows) (Writes status printed)) (sym finds ∙ has_module) on_rows in
       by_length (nat_lt MODULE_LENGTH (length text)) refl on_both
 
-pub due_is_static : (bytes text : List ℕ) (exported : IsAgreedText bytes text) (words : List (List ℕ)) (held : Held) (of_module of_rows rows : List ℕ) → command_of words ≡ Some (Vrun of_module of_rows) → held of_module ≡ Some text
-    → held of_rows ≡ Some rows → (status : Status) (printed : List ℕ) → IsDue words (Some held) (Writes status printed) → IsStaticText exported.made.netlist rows printed
-due_is_static bytes text exported words held of_module of_rows rows asked has_module has_rows status printed due =
-    of_due bytes text exported of_module of_rows rows status printed held has_module has_rows (subst (λ (c : Option Command). IsDueFor c (Some held) (Writes status printed)) asked due)
+pub due_is_static : (n : Netlist) (text : List ℕ) → has_no_clock n ≡ true → IsAccepted n → IsModuleText text (module_of n)
+    → (words : List (List ℕ)) (held : Held) (of_module of_rows rows : List ℕ) → command_of words ≡ Some (Vrun of_module of_rows) → held of_module ≡ Some text → held of_rows ≡ Some rows
+    → (status : Status) (printed : List ℕ) → IsDue words (Some held) (Writes status printed) → IsStaticText n rows printed
+due_is_static n text none accepted is_text words held of_module of_rows rows asked has_module has_rows status printed due =
+    of_due n text none accepted is_text of_module of_rows rows status printed held has_module has_rows (subst (λ (c : Option Command). IsDueFor c (Some held) (Writes status printed)) asked due)

@@ -1,13 +1,17 @@
 //! Laws of what is due.
 
-ghost use Rattle.std.specs.Prelude.{◌≡◌, ◌≤◌, ℕ, List, Some, length, All};
+ghost use Rattle.std.specs.Prelude.{◌≡◌, ◌≤◌, ℕ, List, Some, length, All, IsTrue};
 ghost use Rattle.lg_export.specs.Layout.{module_of};
+ghost use Rattle.lg_netlist.specs.declared.netlist.Netlist.{Netlist as Circuit};
+ghost use Rattle.lg_netlist.specs.Acceptance.{IsAccepted};
+ghost use Rattle.lg_netlist.specs.Static.{has_no_clock};
+ghost use Rattle.lg_vtree.specs.Grammar.{IsModuleText};
 ghost use Rattle.lg_vtree.specs.declared.module.Module.{Module as Tree};
 ghost use Rattle.lg_vrows.specs.Due.{IsValidText};
 ghost use Rattle.lg_vrows.specs.Rows.{AreBoundRows, IsDefinedRow};
 ghost use Rattle.lg_run.specs.declared.status.Status.{Status};
 ghost use Rattle.lg_run.specs.declared.status.Status.TheVariants.{Done};
-ghost use Rattle.lg_run.specs.Due.{Held, Due, Writes, module_length, rows_length, IsDue, IsAgreedText};
+ghost use Rattle.lg_run.specs.Due.{Held, Due, Writes, module_length, rows_length, IsDue};
 ghost use Rattle.lg_run.specs.StaticText.{IsStaticText};
 ghost use Rattle.lg_run.specs.Words.{Vrun, command_of};
 
@@ -28,13 +32,14 @@ pub fn defined_rows_have_a_due_text()
         (text : List ℕ) × IsDue words (Some held) (Writes Done text) }
 {}
 
-/// A text that `export` wrote, of at most 134,217,728 bytes, is one of the valid module that the drawing's netlist is laid out
-/// as, within the limits of the reader. Where one file holds such a text and the other rows, the text that is due for `vrun`
-/// shows the static rows of the drawing.
+/// Of an accepted netlist without clocks, a text of its module of at most 134,217,728 bytes is one of a valid module, within
+/// the limits of the reader. Where one file holds such a text, as `export` writes it, and the other rows, the text that is
+/// due for `vrun` shows the static rows of the netlist.
 pub fn exported_modules_give_static_rows()
-    ensures read { (bytes text : List ℕ) (exported : IsAgreedText bytes text) → length text ≤ module_length →
-        IsValidText text (module_of exported.made.netlist) }
-    ensures rows { (bytes text : List ℕ) (exported : IsAgreedText bytes text) (words : List (List ℕ)) (held : Held) (of_module of_rows rows : List ℕ) →
+    ensures read { (n : Circuit) (text : List ℕ) → IsTrue (has_no_clock n) → IsAccepted n →
+        IsModuleText text (module_of n) → length text ≤ module_length → IsValidText text (module_of n) }
+    ensures rows { (n : Circuit) (text : List ℕ) → IsTrue (has_no_clock n) → IsAccepted n → IsModuleText text (module_of n) →
+        (words : List (List ℕ)) (held : Held) (of_module of_rows rows : List ℕ) →
         command_of words ≡ Some (Vrun of_module of_rows) → held of_module ≡ Some text → held of_rows ≡ Some rows →
-        (status : Status) (printed : List ℕ) → IsDue words (Some held) (Writes status printed) → IsStaticText exported.made.netlist rows printed }
+        (status : Status) (printed : List ℕ) → IsDue words (Some held) (Writes status printed) → IsStaticText n rows printed }
 {}
