@@ -218,5 +218,9 @@ fn only_cared_bits_are_compared(rt: HostRuntime) -> Result<(), Fail> {
     let floating = Word::fill(4, Bit::Unknown);
     assert!(rt; wanted.width() == 4);
     assert!(rt; !passes(&floating, wanted));
+    let ones = Word::fill(4, Bit::One);
+    let eleven = Cared::new(&Word::from_number(4, 11), &ones);
+    assert!(rt; passes_number(&eleven, 11));
+    assert!(rt; !passes_number(&eleven, 8));
     Ok(())
 }

@@ -5,15 +5,64 @@ ghost use Rattle.lg_memory.specs.Form.{IsForm};
 ghost use Rattle.lg_memory.specs.Shape.{HasShape, FitsInputs, output_widths};
 
 use super::one;
-use lg_memory::{State, StateForm, Trigger, out, renew, start, step};
+use lg_memory::{FlipKind, Goal, State, StateForm, Trigger, out, renew, start, step};
 use lg_value::Bit::{Error, One, Unknown, Zero};
 use lg_value::{Bit, Word};
 use sqlite_items::Items;
+use std::alloc::Global;
 
 fn byte(n: u64) -> Word
     ensures { length result ≡ 8 }
 {
     Word::from_number(8, n)
+}
+
+// Whether the state at the start holds just these words.
+fn starts_as(alloc: Global, form: &StateForm, wanted: &[Word]) -> bool
+    requires { IsForm form.now }
+{
+    match start(alloc, form) {
+        Ok(State::None) => wanted.is_empty(),
+        Ok(State::One(word)) => wanted == [word].as_slice(),
+        Ok(State::Many(words)) => words.as_slice() == wanted,
+        Err(_) => false,
+    }
+}
+
+#[test]
+fn each_form_starts_with_zeros(rt: HostRuntime) {
+    let trigger = Trigger::Rising;
+    let kind = FlipKind::D;
+    let flip = StateForm::Flip { kind, trigger };
+    assert!(rt; starts_as(rt.alloc(), &flip, &[one(Zero)]));
+    let register = StateForm::Register { width: 8, trigger };
+    assert!(rt; starts_as(rt.alloc(), &register, &[byte(0)]));
+    let counter = StateForm::Counter {
+        width: 8,
+        max: 9,
+        goal: Goal::Wrap,
+        trigger,
+    };
+    assert!(rt; starts_as(rt.alloc(), &counter, &[byte(0)]));
+    let shift = StateForm::Shift {
+        width: 1,
+        length: 3,
+        parallel: false,
+        trigger,
+    };
+    assert!(rt; starts_as(rt.alloc(), &shift, &[one(Zero), one(Zero), one(Zero)]));
+    let rom = StateForm::Rom {
+        address: 1,
+        width: 8,
+        words: Items::new(rt.alloc()),
+    };
+    assert!(rt; starts_as(rt.alloc(), &rom, &[]));
+    let ram = StateForm::Ram {
+        address: 1,
+        width: 8,
+        trigger,
+    };
+    assert!(rt; starts_as(rt.alloc(), &ram, &[byte(0), byte(0)]));
 }
 
 // So many steps from some inputs to others and back.
