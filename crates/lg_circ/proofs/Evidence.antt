@@ -13,8 +13,7 @@ use Rattle.lg_circ.specs.declared.project.Wire.{Wire}
 use Rattle.lg_circ.specs.declared.project.Comp.{Comp}
 use Rattle.lg_circ.specs.declared.project.Sheet.{Sheet}
 use Rattle.lg_circ.specs.declared.project.Project.{Project}
-use Rattle.lg_circ.specs.declared.project.TheConstants.{USUAL_LIMIT}
-use Rattle.lg_circ.specs.Bounds.{is_on_sheet, is_limit, given}
+use Rattle.lg_circ.specs.Bounds.{is_on_sheet, is_limit, usual_limit, given}
 use Rattle.lg_attrs.specs.Pairs.{value_under}
 use Rattle.lg_circ.specs.Grammar.{are_digits, number_in}
 use Rattle.lg_circ.specs.Tree.{attribute, children_named, child_named}
@@ -77,7 +76,7 @@ decimal_none [] are = refl
 decimal_none (c ∷ cs) are = cond-false (list_all is_ascii_digit (c ∷ cs)) (Some (number_of (c ∷ cs))) None (sym (digits_cons c cs) ∙ are)
 
 abbrev usual : Limit
-usual = (USUAL_LIMIT, refl)
+usual = (usual_limit, refl)
 
 pub limit_none : (text : List ℕ) → are_digits is_ascii_digit text ≡ false → 1000 ≡ (limit_of (Some text)).0
 limit_none text are = ap (λ (o : Option ℕ). (unwrap_or (o >>= in_limit) usual).0) (sym (decimal_none text are))

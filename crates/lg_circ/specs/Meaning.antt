@@ -10,8 +10,7 @@ use Rattle.lg_circ.specs.declared.project.Wire.{Wire}
 use Rattle.lg_circ.specs.declared.project.Comp.{Comp}
 use Rattle.lg_circ.specs.declared.project.Sheet.{Sheet}
 use Rattle.lg_circ.specs.declared.project.Project.{Project}
-use Rattle.lg_circ.specs.declared.project.TheConstants.{USUAL_LIMIT}
-use Rattle.lg_circ.specs.Bounds.{is_on_sheet, is_limit, given}
+use Rattle.lg_circ.specs.Bounds.{is_on_sheet, is_limit, usual_limit, given}
 use Rattle.lg_attrs.specs.Pairs.{value_under}
 use Rattle.lg_circ.specs.Tree.{text_of, children_named, child_named, attribute}
 
@@ -114,7 +113,7 @@ Limit = (n : ℕ) × IsTrue (is_limit n)
 
 -- the limit that a text says: a decimal in its range, and else the usual one
 abbrev pub limit_of : Option (List ℕ) → Limit
-limit_of text = unwrap_or (text >>= decimal_of >>= λ n. given (is_limit n) (λ in_range. (n, in_range))) (USUAL_LIMIT, refl)
+limit_of text = unwrap_or (text >>= decimal_of >>= λ n. given (is_limit n) (λ in_range. (n, in_range))) (usual_limit, refl)
 
 abbrev pub is_error : Option (List ℕ) → Bool
 is_error None = false

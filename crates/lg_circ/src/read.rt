@@ -1,6 +1,7 @@
 //! Projects, read from their text.
 
 ghost use Rattle.std.specs.Prelude.{◌+◌, ◌<◌, ◌≤◌, ◌↔◌, length, All, IfOk, OnOk, IsErrOf};
+ghost use Rattle.lg_circ.specs.Bounds.{greatest_length};
 ghost use Rattle.lg_circ.specs.Grammar.{SpellsText};
 ghost use Rattle.lg_circ.specs.Grown.{Makes, IsTreeOf, IsProjectOf};
 ghost use Rattle.lg_circ.specs.Project.{SaysProject, IsTooDeep, IsNoProject, ReadsAs, RefusesAs};
@@ -23,20 +24,20 @@ pub const GREATEST_LENGTH: usize = 8_388_608;
 pub fn read_project(alloc: Global, bytes: &[u8]) -> Result<Project, CircFault>
     // What is read is what the bytes say.
     ensures found { IfOk result (λ p. SaysProject bytes.now p) }
-    ensures within { OnOk result (length bytes.now ≤ GREATEST_LENGTH) }
+    ensures within { OnOk result (length bytes.now ≤ greatest_length) }
     ensures few { IfOk result (λ project. All (λ sheet. length sheet.comps + length sheet.wires ≤ length bytes.now) project.sheets) }
     // A project is read as what it says, unless memory runs out.
     ensures only { (p : Project) →
-        SaysProject bytes.now p → length bytes.now ≤ GREATEST_LENGTH → ReadsAs p result }
+        SaysProject bytes.now p → length bytes.now ≤ greatest_length → ReadsAs p result }
 
     // Each refusal comes just where its cause is there, in this order, unless memory runs out.
-    ensures too_long { IsErrOf result CircFault.TooLong ↔ (GREATEST_LENGTH < length bytes.now) }
+    ensures too_long { IsErrOf result CircFault.TooLong ↔ (greatest_length < length bytes.now) }
     ensures too_deep { IsErrOf result CircFault.TooDeep →
-        (length bytes.now ≤ GREATEST_LENGTH) × IsTooDeep bytes.now }
-    ensures deep_refused { IsTooDeep bytes.now → length bytes.now ≤ GREATEST_LENGTH → RefusesAs CircFault.TooDeep result }
+        (length bytes.now ≤ greatest_length) × IsTooDeep bytes.now }
+    ensures deep_refused { IsTooDeep bytes.now → length bytes.now ≤ greatest_length → RefusesAs CircFault.TooDeep result }
     ensures not_project { IsErrOf result CircFault.NotProject →
-        (length bytes.now ≤ GREATEST_LENGTH) × IsNoProject bytes.now }
-    ensures others_refused { IsNoProject bytes.now → length bytes.now ≤ GREATEST_LENGTH → RefusesAs CircFault.NotProject result }
+        (length bytes.now ≤ greatest_length) × IsNoProject bytes.now }
+    ensures others_refused { IsNoProject bytes.now → length bytes.now ≤ greatest_length → RefusesAs CircFault.NotProject result }
 {
     if bytes.len() > GREATEST_LENGTH {
         return Err(CircFault::TooLong);

@@ -5,7 +5,10 @@ use Rattle.std.specs.Fmt.{decimal}
 use Rattle.std.specs.Int.{is_in_range}
 use Rattle.std.specs.Str.{bytes_eq}
 use Rattle.lg_text.specs.NameByte.{is_name_byte}
-use Rattle.lg_names.specs.declared.names.TheConstants.{LONGEST_NAME}
+
+-- how many characters a name has at most before it is numbered
+abbrev pub longest_name : ℕ
+longest_name = 256
 
 -- 1 to 290 ASCII letters, digits and `_`
 abbrev pub is_pin_name : List ℕ → Bool
@@ -35,7 +38,7 @@ or_pin (c ∷ cs) = c ∷ cs
 
 -- the name that a label gives where no other pin has it
 abbrev pub name_of_label : List ℕ → List ℕ
-name_of_label label = or_pin (take LONGEST_NAME (flat_map cleaned_byte (trimmed label)))
+name_of_label label = or_pin (take longest_name (flat_map cleaned_byte (trimmed label)))
 
 -- the name is among those
 abbrev pub is_taken : List (List ℕ) → List ℕ → Bool
