@@ -1,6 +1,9 @@
 pub mod BindingLemmas
 pub mod BitLemmas
 pub mod CaredLemmas
+pub mod DecidedBinding
+pub mod DecidedLines
+pub mod DecidedValues
 pub mod DigitLemmas
 pub mod HeadingLemmas
 pub mod LineLemmas
