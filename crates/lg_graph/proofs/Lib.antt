@@ -9,3 +9,4 @@ mod CloseLemmas
 mod FinishLemmas
 mod StepLemmas
 mod SortedLemmas
+pub mod Ways

@@ -5,17 +5,17 @@ use Rattle.std.proofs.lemmas.Bool.{cases_lt, cases_order}
 use Rattle.std.proofs.lemmas.List.{get_or_past}
 use Rattle.std.proofs.lemmas.Option.{same_Some, slice_get_within}
 use Rattle.lg_graph.specs.Graph.{HasArrow, Leads}
+use Rattle.lg_graph.proofs.Ways.{nothing, leads_or_not}
 use Rattle.lg_netlist.specs.declared.acceptance.NotAccepted.{NotAccepted}
 use Rattle.lg_netlist.specs.declared.acceptance.NotAccepted.TheVariants as refusal
 use Rattle.lg_netlist.specs.declared.netlist.Netlist.{Netlist}
 use Rattle.lg_netlist.specs.Acceptance.{Condition, ManyDrivers, Undriven, Cycle, Refuses, IsRefused, IsAccepted, many_drivers, undriven}
 use Rattle.lg_netlist.specs.Chain.{Output, IsOnCycle, IsFirstOnCycle}
 use Rattle.lg_netlist.specs.Graph.{all_outputs, net_graph, IsNetGraph}
-use Rattle.lg_netlist.proofs.NetGraphLemmas.{IsNetGraph-made, nothing}
+use Rattle.lg_netlist.proofs.NetGraphLemmas.{IsNetGraph-made}
 use Rattle.lg_netlist.proofs.OutputLemmas.{output_listed, parts_rise}
 use Rattle.lg_netlist.proofs.CycleLemmas.{cycle_leads, leads_cycle}
 use Rattle.lg_netlist.proofs.OrderLemmas.{arrow_inside, cycle_output}
-use Rattle.lg_netlist.proofs.Ways.{leads_or_not}
 
 -- a way leads from one node of the graph of nets and outputs to another, or none does
 pub way_or_none : (n : Netlist) (from to : ℕ) → Leads (net_graph n) from to ⊎ (Leads (net_graph n) from to → ⊥)

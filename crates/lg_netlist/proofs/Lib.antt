@@ -9,7 +9,6 @@ pub mod CycleLemmas
 pub mod OrderLemmas
 pub mod OneRefusal
 pub mod LongestLemmas
-pub mod Ways
 pub mod Judged
 pub mod DriverFacts
 pub mod AcceptedFacts

@@ -7,6 +7,7 @@ use Rattle.std.proofs.lemmas.List.{get_or-set_same, get_or-set_other, get_or_app
 use Rattle.std.proofs.lemmas.List.Elements.{All-head, All-tail, Contains-append_left, Contains-append_right, Contains-append_cases, Contains-push, Contains-push_cases}
 use Rattle.std.proofs.lemmas.Option.{same_Some, slice_get-get_or, get_or_from_slice_get, slice_get_within}
 use Rattle.lg_graph.specs.Graph.{HasArrow}
+use Rattle.lg_graph.proofs.Ways.{nothing, Contains-cons_cases}
 use Rattle.lg_netlist.specs.declared.netlist.Cell.{Cell}
 use Rattle.lg_netlist.specs.declared.netlist.Cell.TheVariants.{Not, And, Or}
 use Rattle.lg_netlist.specs.declared.netlist.PartUse.{PartUse}
@@ -18,19 +19,12 @@ use Rattle.lg_netlist.specs.Graph.{all_outputs, IsNetGraph, read_nets, with_arro
 use Rattle.lg_netlist.specs.Valid.{AreNets, IsPort, IsFittingPart, TakesInputs}
 use Rattle.lg_netlist.proofs.OutputLemmas.{output_at}
 
-pub nothing : {x : ℕ} → Contains [] x → ⊥
-nothing h = let inside = h.1 in absurd (omega arith)
-
 -- ---- arrows from the nets of one output
 
 pub length-with_arrows : (node : ℕ) (bits : List ℕ) (graph : List (List ℕ)) → length (with_arrows node bits graph) ≡ length graph
 length-with_arrows node [] graph = refl
 length-with_arrows node (net ∷ bits) graph =
     length-with_arrows node bits (set graph net (get_or graph net [] ++ node ∷ [])) ∙ length-set graph net (get_or graph net [] ++ node ∷ [])
-
-pub Contains-cons_cases : (x : ℕ) (xs : List ℕ) (y : ℕ) → Contains (x ∷ xs) y → (x ≡ y) ⊎ Contains xs y
-Contains-cons_cases x xs y (zero, inside, e) = inl e
-Contains-cons_cases x xs y (suc k, inside, e) = inr (k, omega arith, e)
 
 -- one arrow more
 one_arrow : (node net : ℕ) (graph : List (List ℕ)) (at to : ℕ) → net < length graph

@@ -5,7 +5,13 @@ use Rattle.std.specs.Prelude.{All, Contains}
 use Rattle.std.proofs.lemmas.Bool.{cases_eq, cases_lt}
 use Rattle.std.proofs.lemmas.List.Elements.{All-nil, All-cons, All-head, All-tail, All-append, All-weaker, Contains-append_right}
 use Rattle.lg_graph.specs.Graph.{HasArrow, IsWay, Leads}
-use Rattle.lg_netlist.proofs.NetGraphLemmas.{nothing, Contains-cons_cases}
+
+pub nothing : {A : Type 0} {x : A} → Contains [] x → ⊥
+nothing h = let inside = h.1 in absurd (omega arith)
+
+pub Contains-cons_cases : {A : Type 0} (x : A) (xs : List A) (y : A) → Contains (x ∷ xs) y → (x ≡ y) ⊎ Contains xs y
+Contains-cons_cases x xs y (zero, inside, e) = inl e
+Contains-cons_cases x xs y (suc k, inside, e) = inr (k, omega arith, e)
 
 contains_or_not : (xs : List ℕ) (y : ℕ) → Contains xs y ⊎ (Contains xs y → ⊥)
 contains_or_not [] y = inr nothing
