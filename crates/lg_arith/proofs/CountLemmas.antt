@@ -1,22 +1,19 @@
 -- Counts of ones, and the width that a count fits.
-use Rattle.std.proofs.Common.{◌≡◌, ℕ, zero, suc, ◌+◌, ◌-◌, ◌*◌, ◌^◌, ◌<◌, ◌≤◌, Bool, true, false, ltb, refl, ◌∙◌, arith, length, get_or, take, replicate, List, inl, inr}
+use Rattle.std.proofs.Common.{◌≡◌, ℕ, zero, suc, ◌+◌, ◌-◌, ◌*◌, ◌^◌, ◌<◌, ◌≤◌, Bool, true, false, ltb, ◌∙◌, arith, length, get_or, replicate, List, inl, inr}
 use Rattle.std.specs.Prelude.{not}
 use Rattle.std.specs.List.{position_or_len, range_with_len}
 use Rattle.std.proofs.lemmas.Nat.{leading_length}
 use Rattle.std.proofs.lemmas.Bool.{cases_lt, ltb-true, ltb-false}
-use Rattle.std.proofs.lemmas.List.Sums.{fails_before_first, passes_at_first, count_by_more_yes, count_by_more_no, prefix_len-le-length}
+use Rattle.std.proofs.lemmas.List.Sums.{fails_before_first, passes_at_first, prefix_len-le-length}
 use Rattle.std.proofs.lemmas.List.FromFn.{length-range_with_len, get_or-range_with_len}
 use Rattle.std.proofs.Math.Nat.{pow-succ'}
 use Rattle.std.proofs.Math.Pow.{pow_mono}
 use Rattle.std.specs.Int.Count.{count_leading_zeros}
-use denote.Enum.Bare.{sameb}
-use Rattle.lg_value.specs.contracts.bit.Bit.{the_type}
 use Rattle.lg_value.specs.declared.bit.Bit.{Bit}
-use Rattle.lg_value.specs.declared.bit.Bit.TheVariants.{Zero, One, Unknown, Error}
-use Rattle.lg_value.specs.Bit.{same_bit}
+use Rattle.lg_value.specs.declared.bit.Bit.TheVariants.{Error}
 use Rattle.lg_value.specs.Word.{IsWidth, word_of_number}
 use Rattle.lg_arith.specs.Operands.{are_defined}
-use Rattle.lg_arith.specs.Count.{ones_in, ones_of, greatest_count, least_width, count_of}
+use Rattle.lg_arith.specs.Count.{ones_of, greatest_count, least_width, count_of}
 use Rattle.lg_arith.proofs.OperandLemmas.{length-word_output, word_output_undefined, word_output_defined}
 
 pow_above : (n : ℕ) → n < 2 ^ n
@@ -78,19 +75,6 @@ zero_width n (suc width) some fits = omega arith
 -- a number of at most 64 digits, but not 0, has a width that a word may have
 pub IsWidth-least_width : (n : ℕ) → 1 ≤ n → n < 2 ^ 64 → IsWidth (least_width n)
 IsWidth-least_width n some small = (zero_width n (least_width n) some (least_width_fits n), least_width_least n 64 small)
-
-pub ones_more_yes : (word : List Bit) (place : ℕ) (d : Bit) → place < length word → get_or word place d ≡ One → ones_in (take (place + 1) word) ≡ ones_in (take place word) + 1
-ones_more_yes word place d inside one = count_by_more_yes (same_bit One) word place d inside (rw one refl)
-
-other : (b : Bit) → sameb the_type b One ≡ false → same_bit One b ≡ false
-other Zero h = refl
-other One h = absurd (cc h)
-other Unknown h = refl
-other Error h = refl
-
-pub ones_more_no : (word : List Bit) (place : ℕ) (d : Bit) → place < length word → sameb the_type (get_or word place d) One ≡ false → ones_in (take (place + 1) word) ≡ ones_in (take place word)
-ones_more_no word place d inside differs =
-    count_by_more_no (same_bit One) word place d inside (other (get_or word place d) differs)
 
 pub length-count_of : (inputs : List (List Bit)) → length (count_of inputs) ≡ least_width (greatest_count inputs)
 unfolding count_of

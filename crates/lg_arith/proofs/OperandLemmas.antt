@@ -1,7 +1,6 @@
 -- Operands, and the outputs that their numbers give.
-use Rattle.std.proofs.Common.{◌≡◌, ℕ, ◌+◌, ◌%◌, ◌^◌, ◌-◌, ◌<◌, ◌≤◌, Bool, true, false, cond, ◌⊎◌, List, [], ◌∷◌, ◌++◌, length, get_or, replicate, take, drop, sym, refl, ap, ◌∙◌, inl, inr, arith, length-take-le, length-append, append_assoc}
-use Rattle.std.proofs.lemmas.List.{drop_more, map_more, set_at, length-map, length-replicate, take-append-drop}
-use Rattle.std.proofs.Math.ListN.{set}
+use Rattle.std.proofs.Common.{◌≡◌, ℕ, ◌+◌, ◌%◌, ◌^◌, ◌-◌, ◌≤◌, Bool, true, false, cond, ◌⊎◌, List, [], ◌∷◌, length, get_or, replicate, sym, refl, ap, ◌∙◌, inl, inr, arith}
+use Rattle.std.proofs.lemmas.List.{length-replicate}
 use Rattle.std.specs.Prelude.{◌&&◌}
 use Rattle.std.specs.Bool.{Decides}
 use Rattle.std.proofs.Math.Pow.{mod-mod-pow}
@@ -11,7 +10,7 @@ use Rattle.lg_value.specs.declared.bit.Bit.TheVariants.{Zero, One, Unknown, Erro
 use Rattle.lg_value.specs.Bit.{is_defined_bit}
 use Rattle.lg_value.specs.Word.{IsDefined, word_of_number}
 use Rattle.lg_value.proofs.WordLemmas.{length-word_of_number, IsDefined-word_of_number, number_of-word_of_number, word_of_number-number_of}
-use Rattle.lg_arith.specs.Operands.{is_defined_word, are_defined, counted_bit, counted_word, word_output, bit_output, bit_of_test}
+use Rattle.lg_arith.specs.Operands.{is_defined_word, are_defined, word_output, bit_output, bit_of_test}
 
 pub digit_from_test : (b : Bit) → is_defined_bit b ≡ true → (b ≡ Zero) ⊎ (b ≡ One)
 digit_from_test Zero h = inl refl
@@ -102,15 +101,3 @@ length-word_output operands width n =
       | true ↦ length-word_of_number width n
       | false ↦ length-replicate width Error
     ]
-
--- the step of a loop that writes each bit as it counts
-pub counted_more : (word : List Bit) (place : ℕ) (d : Bit) → place < length word → set (counted_word (take place word) ++ drop place word) place (counted_bit (get_or word place d)) ≡ counted_word (take (place + 1) word) ++ drop (place + 1) word
-counted_more word place d inside =
-    let before : length (counted_word (take place word)) ≡ place = length-map (take place word) counted_bit ∙ length-take-le place word (omega arith) in
-    rw (drop_more word place d inside, map_more counted_bit word place d inside, set_at (counted_word (take place word)) (get_or word place d) (drop (place + 1) word) (counted_bit (get_or word place d)) place before)
-    (sym (append_assoc (counted_word (take place word)) (counted_bit (get_or word place d) ∷ []) (drop (place + 1) word)))
-
-pub length-counted : (word : List Bit) (place : ℕ) → length (counted_word (take place word) ++ drop place word) ≡ length word
-length-counted word place =
-    let whole : length (take place word ++ drop place word) ≡ length word = ap length (take-append-drop place word) in
-    simp (length-append, length-map) (simp length-append at whole)

@@ -1,24 +1,10 @@
 //! Counts of ones.
 
 ghost use Rattle.std.specs.Prelude.{◌≡◌, ◌≤◌, length};
-ghost use Rattle.lg_arith.specs.Count.{ones_in, count_of, least_width, greatest_count};
+ghost use Rattle.lg_arith.specs.Count.{count_of, least_width, greatest_count};
 
 use crate::operand::{are_defined, low_word};
 use lg_value::{Bit, Word};
-
-// How many bits of a word are One.
-fn ones_in(word: &Word) -> u32
-    ensures ones { result ≡ ones_in word.now }
-    ensures inside { result ≤ length word.now }
-{
-    let mut ones = 0;
-    for place in 0..word.width() {
-        if word.bit(place) == Bit::One {
-            ones += 1;
-        }
-    }
-    ones
-}
 
 /// The least width that a number fits: 0 for 0.
 pub fn least_width(n: u32) -> u32
@@ -40,7 +26,7 @@ pub fn count_ones(inputs: &[Word]) -> Word
     let mut ones = 0;
     for input in inputs {
         greatest += input.width();
-        ones += ones_in(input);
+        ones += input.ones();
     }
     let width = least_width(greatest);
     if are_defined(inputs) {

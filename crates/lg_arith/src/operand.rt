@@ -20,11 +20,7 @@ pub(crate) fn counted_bit(bit: Bit) -> Bit
 pub(crate) fn counted_word(word: &Word) -> Word
     ensures { result ≡ counted_word word.now }
 {
-    let mut counted = *word;
-    for place in 0..word.width() {
-        counted = counted.with_bit(place, counted_bit(word.bit(place)));
-    }
-    counted
+    word.map(counted_bit)
 }
 
 // Whether each bit of a word is Zero or One.

@@ -28,6 +28,61 @@ fn joins_of_all_sixteen_pairs(rt: HostRuntime) {
 }
 
 #[test]
+fn gates_of_all_sixteen_pairs(rt: HostRuntime) {
+    let table = [
+        (Bit::Zero, Bit::Zero, Bit::Zero, Bit::Zero, Bit::Zero),
+        (Bit::Zero, Bit::One, Bit::Zero, Bit::One, Bit::One),
+        (Bit::Zero, Bit::Unknown, Bit::Zero, Bit::Error, Bit::Error),
+        (Bit::Zero, Bit::Error, Bit::Zero, Bit::Error, Bit::Error),
+        (Bit::One, Bit::Zero, Bit::Zero, Bit::One, Bit::One),
+        (Bit::One, Bit::One, Bit::One, Bit::One, Bit::Zero),
+        (Bit::One, Bit::Unknown, Bit::Error, Bit::One, Bit::Error),
+        (Bit::One, Bit::Error, Bit::Error, Bit::One, Bit::Error),
+        (Bit::Unknown, Bit::Zero, Bit::Zero, Bit::Error, Bit::Error),
+        (Bit::Unknown, Bit::One, Bit::Error, Bit::One, Bit::Error),
+        (
+            Bit::Unknown,
+            Bit::Unknown,
+            Bit::Error,
+            Bit::Error,
+            Bit::Error,
+        ),
+        (Bit::Unknown, Bit::Error, Bit::Error, Bit::Error, Bit::Error),
+        (Bit::Error, Bit::Zero, Bit::Zero, Bit::Error, Bit::Error),
+        (Bit::Error, Bit::One, Bit::Error, Bit::One, Bit::Error),
+        (Bit::Error, Bit::Unknown, Bit::Error, Bit::Error, Bit::Error),
+        (Bit::Error, Bit::Error, Bit::Error, Bit::Error, Bit::Error),
+    ];
+    for (a, b, and, or, xor) in table {
+        let a = Word::fill(1, a);
+        let b = Word::fill(1, b);
+        assert_eq!(rt; a.and(&b), Word::fill(1, and), "{a:?} and {b:?}");
+        assert_eq!(rt; a.or(&b), Word::fill(1, or), "{a:?} or {b:?}");
+        assert_eq!(rt; a.xor(&b), Word::fill(1, xor), "{a:?} xor {b:?}");
+    }
+}
+
+#[test]
+fn each_bit_changed_and_ones_counted(rt: HostRuntime) {
+    let word = Word::from_number(64, 0x8000_0000_0000_0001)
+        .with_bit(1, Bit::Unknown)
+        .with_bit(62, Bit::Error);
+    let turned = word.map(|bit| match bit {
+        Bit::Zero => Bit::Error,
+        Bit::One => Bit::Unknown,
+        Bit::Unknown => Bit::One,
+        Bit::Error => Bit::Zero,
+    });
+    assert_eq!(rt; turned.bit(0), Bit::Unknown);
+    assert_eq!(rt; turned.bit(1), Bit::One);
+    assert_eq!(rt; turned.bit(2), Bit::Error);
+    assert_eq!(rt; turned.bit(62), Bit::Zero);
+    assert_eq!(rt; turned.bit(63), Bit::Unknown);
+    assert_eq!(rt; word.ones(), 2);
+    assert_eq!(rt; turned.ones(), 1);
+}
+
+#[test]
 fn numbers_come_back_at_each_width(rt: HostRuntime) {
     let table: [(u32, u64, u64); 20] = [
         (1, 0, 0),

@@ -1,9 +1,9 @@
 pub mod DefinedLemmas
 pub mod DefinedOutputs
+pub mod FoldLemmas
 pub mod GateLaws
 pub mod GateLemmas
 pub mod PlexerLemmas
 pub mod PriorityLemmas
 pub mod SelectorLemmas
 pub mod Widths
-pub mod Written

@@ -1,11 +1,11 @@
 //! Gates of any number of inputs.
 
-ghost use Rattle.std.specs.Prelude.{◌≡◌, ◌+◌, ◌%◌, ◌<◌, ◌==◌, nat_lt, if◌then◌else◌, is_none, length};
+ghost use Rattle.std.specs.Prelude.{◌≡◌, ℕ, ◌<◌, is_none, length, slice_index_or};
 ghost use Rattle.std.specs.List.{list_all, list_any};
 ghost use Rattle.lg_value.specs.Word.{IsWidth};
-ghost use Rattle.lg_value.specs.Bit.{not_bit};
-ghost use Rattle.lg_gates.specs.Gate.{some_zero, all_defined, ones, bit_of, gate_bit, attached, bits_at, lacks_inputs, gate_word, HaveWidth};
+ghost use Rattle.lg_gates.specs.Gate.{and_bit, or_bit, odd_bit, exactly_one_bit, attached, bits_at, lacks_inputs, gate_word, HaveWidth};
 
+use crate::outputs::not;
 use lg_value::{Bit, Word};
 
 /// The kinds of gates that take any number of inputs.
@@ -33,126 +33,75 @@ pub enum GateKind {
     EvenParity,
 }
 
-// What the attached inputs hold at one place.
-#[derive(Drop)]
-struct Held {
-    some_zero: bool,
-    all_defined: bool,
-    ones: usize,
-}
-
-// 1 for yes and 0 for no.
-fn bit_of(yes: bool) -> Bit
-    ensures { result ≡ bit_of yes }
-{
-    if yes { Bit::One } else { Bit::Zero }
-}
-
-// The inversion of a bit, which keeps an error.
-pub(crate) fn not_bit(bit: Bit) -> Bit
-    ensures { result ≡ not_bit bit }
-{
-    match bit {
-        Bit::Zero => Bit::One,
-        Bit::One => Bit::Zero,
-        Bit::Unknown | Bit::Error => Bit::Error,
-    }
-}
-
-impl Held {
-    // What the attached inputs hold at a place, which is below their width.
-    fn at(inputs: &[Option<Word>], width: u32, place: u32) -> Held
-        requires widths { HaveWidth width inputs.now }
-        requires inside { place < width }
-        ensures some_zero { result.some_zero ≡ some_zero (bits_at place (attached inputs.now)) }
-        ensures all_defined { result.all_defined ≡ all_defined (bits_at place (attached inputs.now)) }
-        ensures ones { result.ones ≡ ones (bits_at place (attached inputs.now)) }
-    {
-        let mut some_zero = false;
-        let mut all_defined = true;
-        let mut ones = 0;
-        for input in inputs {
-            if let Some(word) = input {
-                match word.bit(place) {
-                    Bit::Zero => some_zero = true,
-                    Bit::One => ones += 1,
-                    Bit::Unknown | Bit::Error => all_defined = false,
-                }
-            }
-        }
-        Held {
-            some_zero,
-            all_defined,
-            ones,
-        }
-    }
-
-    fn and(&self) -> Bit
-        ensures { result ≡ (if self.now.some_zero then Bit.Zero
-            else (if self.now.all_defined then Bit.One else Bit.Error)) }
-    {
-        if self.some_zero {
-            Bit::Zero
-        } else if self.all_defined {
-            Bit::One
-        } else {
-            Bit::Error
-        }
-    }
-
-    fn or(&self) -> Bit
-        ensures { result ≡ (if nat_lt 0 self.now.ones then Bit.One
-            else (if self.now.all_defined then Bit.Zero else Bit.Error)) }
-    {
-        if self.ones > 0 {
-            Bit::One
-        } else if self.all_defined {
-            Bit::Zero
-        } else {
-            Bit::Error
-        }
-    }
-
-    fn exactly_one(&self) -> Bit
-        ensures { result ≡
-            (if self.now.all_defined then bit_of (self.now.ones == 1) else Bit.Error) }
-    {
-        if self.all_defined {
-            bit_of(self.ones == 1)
-        } else {
-            Bit::Error
-        }
-    }
-
-    fn odd(&self) -> Bit
-        ensures { result ≡
-            (if self.now.all_defined then bit_of (self.now.ones % 2 == 1) else Bit.Error) }
-    {
-        if self.all_defined {
-            bit_of(self.ones % 2 == 1)
-        } else {
-            Bit::Error
-        }
-    }
-}
-
-// What a gate answers to its attached inputs' bits at a place, which is below their width.
-fn gate_bit(kind: GateKind, inputs: &[Option<Word>], width: u32, place: u32) -> Bit
+// The AND of the attached inputs.
+fn and(width: u32, inputs: &[Option<Word>]) -> Word
+    requires in_range { IsWidth width }
     requires widths { HaveWidth width inputs.now }
-    requires inside { place < width }
-    ensures { result ≡ gate_bit kind (bits_at place (attached inputs.now)) }
+    ensures bits { (k : ℕ) → k < width → slice_index_or result k Bit.Unknown
+        ≡ and_bit (bits_at k (attached inputs.now)) }
+    ensures width { length result ≡ width }
 {
-    let held = Held::at(inputs, width, place);
-    match kind {
-        GateKind::And => held.and(),
-        GateKind::Or => held.or(),
-        GateKind::Nand => not_bit(held.and()),
-        GateKind::Nor => not_bit(held.or()),
-        GateKind::XorOne => held.exactly_one(),
-        GateKind::XnorOne => not_bit(held.exactly_one()),
-        GateKind::XorOdd | GateKind::OddParity => held.odd(),
-        GateKind::XnorOdd | GateKind::EvenParity => not_bit(held.odd()),
+    let mut word = Word::fill(width, Bit::One);
+    for input in inputs {
+        if let Some(input) = input {
+            word = word.and(input);
+        }
     }
+    word
+}
+
+// The OR of the attached inputs.
+fn or(width: u32, inputs: &[Option<Word>]) -> Word
+    requires in_range { IsWidth width }
+    requires widths { HaveWidth width inputs.now }
+    ensures bits { (k : ℕ) → k < width → slice_index_or result k Bit.Unknown
+        ≡ or_bit (bits_at k (attached inputs.now)) }
+    ensures width { length result ≡ width }
+{
+    let mut word = Word::fill(width, Bit::Zero);
+    for input in inputs {
+        if let Some(input) = input {
+            word = word.or(input);
+        }
+    }
+    word
+}
+
+// Where an odd number of the attached inputs is 1.
+fn odd(width: u32, inputs: &[Option<Word>]) -> Word
+    requires in_range { IsWidth width }
+    requires widths { HaveWidth width inputs.now }
+    ensures bits { (k : ℕ) → k < width → slice_index_or result k Bit.Unknown
+        ≡ odd_bit (bits_at k (attached inputs.now)) }
+    ensures width { length result ≡ width }
+{
+    let mut word = Word::fill(width, Bit::Zero);
+    for input in inputs {
+        if let Some(input) = input {
+            word = word.xor(input);
+        }
+    }
+    word
+}
+
+// Where exactly one of the attached inputs is 1.
+fn exactly_one(width: u32, inputs: &[Option<Word>]) -> Word
+    requires in_range { IsWidth width }
+    requires widths { HaveWidth width inputs.now }
+    ensures bits { (k : ℕ) → k < width → slice_index_or result k Bit.Unknown
+        ≡ exactly_one_bit (bits_at k (attached inputs.now)) }
+    ensures width { length result ≡ width }
+{
+    let mut odd = Word::fill(width, Bit::Zero);
+    let mut many = Word::fill(width, Bit::Zero);
+    for input in inputs {
+        if let Some(input) = input {
+            many = many.or(&odd.and(input));
+            odd = odd.xor(input);
+        }
+    }
+    // An odd number is one, unless it is many.
+    odd.xor(&odd.and(&many))
 }
 
 // Whether nothing is attached to any input.
@@ -186,12 +135,17 @@ pub fn gate(kind: GateKind, width: u32, inputs: &[Option<Word>], strict: bool) -
     ensures word { result ≡ gate_word kind width inputs.now strict }
     ensures width { length result ≡ width }
 {
-    let mut word = Word::fill(width, Bit::Error);
     if lacks_inputs(inputs, strict) {
-        return word;
+        return Word::fill(width, Bit::Error);
     }
-    for place in 0..width {
-        word = word.with_bit(place, gate_bit(kind, inputs, width, place));
+    match kind {
+        GateKind::And => and(width, inputs),
+        GateKind::Nand => not(&and(width, inputs)),
+        GateKind::Or => or(width, inputs),
+        GateKind::Nor => not(&or(width, inputs)),
+        GateKind::XorOne => exactly_one(width, inputs),
+        GateKind::XnorOne => not(&exactly_one(width, inputs)),
+        GateKind::XorOdd | GateKind::OddParity => odd(width, inputs),
+        GateKind::XnorOdd | GateKind::EvenParity => not(&odd(width, inputs)),
     }
-    word
 }

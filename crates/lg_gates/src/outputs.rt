@@ -1,10 +1,9 @@
 //! Outputs of one input: NOT, buffers, controlled buffers, and the output forms of a gate.
 
-ghost use Rattle.std.specs.Prelude.{◌≡◌, ℕ, ◌<◌, length, slice_index_or};
+ghost use Rattle.std.specs.Prelude.{◌≡◌, length};
 ghost use Rattle.lg_value.specs.Bit.{not_bit};
 ghost use Rattle.lg_gates.specs.Shape.{not_word, buffer_bit, buffer_word, controlled_word, shape_bit, shape_word};
 
-use crate::gates::not_bit;
 use lg_value::{Bit, Word};
 
 /// Which values an output drives; the other one floats.
@@ -16,6 +15,17 @@ pub enum OutForm {
     ZeroFloat,
     /// 1 is driven, 0 floats.
     FloatOne,
+}
+
+// The inversion of a bit, which keeps an error.
+fn not_bit(bit: Bit) -> Bit
+    ensures { result ≡ not_bit bit }
+{
+    match bit {
+        Bit::Zero => Bit::One,
+        Bit::One => Bit::Zero,
+        Bit::Unknown | Bit::Error => Bit::Error,
+    }
 }
 
 // A buffered bit.
@@ -38,26 +48,12 @@ fn shape_bit(form: OutForm, bit: Bit) -> Bit
     }
 }
 
-// The word with each bit changed.
-fn each_bit<F: Fn(Bit) -> Bit>(word: &Word, change: F) -> Word
-    requires { F.IsAlwaysCallable change }
-    ensures bits { (k : ℕ) → k < length word.now → F.post change
-        (slice_index_or word.now k Bit.Unknown) (slice_index_or result k Bit.Unknown) }
-    ensures width { length result ≡ length word.now }
-{
-    let mut changed = *word;
-    for place in 0..word.width() {
-        changed = changed.with_bit(place, change(word.bit(place)));
-    }
-    changed
-}
-
 /// The word of a NOT gate: each bit inverted. An undefined bit gives an error.
 pub fn not(a: &Word) -> Word
     ensures word { result ≡ not_word a.now }
     ensures width { length result ≡ length a.now }
 {
-    each_bit(a, not_bit)
+    a.map(not_bit)
 }
 
 /// The word of a buffer: the input's, in which an undefined bit gives an error.
@@ -65,7 +61,7 @@ pub fn buffer(a: &Word) -> Word
     ensures word { result ≡ buffer_word a.now }
     ensures width { length result ≡ length a.now }
 {
-    each_bit(a, buffer_bit)
+    a.map(buffer_bit)
 }
 
 /// The word of a controlled buffer, or where `invert` is set of a controlled inverter. A control of 1
@@ -88,5 +84,5 @@ pub fn shape(form: OutForm, a: &Word) -> Word
     ensures word { result ≡ shape_word form a.now }
     ensures width { length result ≡ length a.now }
 {
-    each_bit(a, |bit| shape_bit(form, bit))
+    a.map(|bit| shape_bit(form, bit))
 }

@@ -1,23 +1,24 @@
 -- How two planes and a width store a word.
-use Rattle.std.proofs.Common.{◌≡◌, ℕ, zero, suc, ◌+◌, ◌-◌, ◌*◌, ◌/◌, ◌%◌, ◌^◌, ◌<◌, ◌≤◌, Bool, true, false, cond, eqb, List, ◌++◌, length, get_or, set, take, drop, replicate, min, max, refl, sym, ap, ◌∙◌, subst, arith, rules, ◌⊎◌, inl, inr, length-append, length-set, length-drop, length-take-le}
-use Rattle.std.specs.Prelude.{◌&&◌, bit_and, bit_or}
+use Rattle.std.proofs.Common.{◌≡◌, ℕ, zero, suc, ◌+◌, ◌-◌, ◌*◌, ◌/◌, ◌%◌, ◌^◌, ◌<◌, ◌≤◌, Bool, true, false, cond, eqb, List, [], ◌∷◌, ◌++◌, length, map, get_or, set, take, drop, replicate, min, max, refl, sym, ap, ◌∙◌, subst, arith, rules, ◌⊎◌, inl, inr, length-append, length-set, length-drop, length-take-le}
+use Rattle.std.specs.Prelude.{◌&&◌, bit_and, bit_or, count_by}
 use Rattle.std.specs.Int.{bit_at, bit_not, w64}
-use Rattle.std.specs.Int.RustNames.{bit_xor}
+use Rattle.std.specs.Int.RustNames.{bit_xor, count_ones}
 use Rattle.std.proofs.lemmas.Bool.{cases_lt, cases_eq}
 use Rattle.std.specs.Bool.{Decides}
-use Rattle.std.proofs.Math.Nat.{mod-eq_of_lt}
+use Rattle.std.proofs.Math.Nat.{mod-eq_of_lt, pow-succ'}
 use Rattle.std.proofs.Math.ListN.{get_or-append}
-use Rattle.std.proofs.lemmas.Nat.{pow-add, mul-add-lt, and_le_l, and_le_r, or_lt, xor_lt, pow_pos, pow_below, shr-shr, or_shifted, shl_whole}
+use Rattle.std.proofs.lemmas.Nat.{pow-add, mul-add-lt, and_le_l, and_le_r, or_lt, xor_lt, pow_pos, pow_below, shr-shr, or_shifted, shl_whole, ones_cat}
 use Rattle.std.proofs.lemmas.Nat.Bits.{bit_at_lowest, bit_at-suc, bit_at-lt, bit_at_and, bit_at_or, bit_at_xor, bit_at_not, bit_at_set_same, bit_at_set_other, bit_at_clear_same, bit_at_clear_other, bit_at_ones, bit_at_cat_low, bit_at_cat_high, bit_at-zero, same_from_bits_below}
-use Rattle.std.proofs.lemmas.List.{ext_get_or, get_or-replicate, length-replicate, get_or-take, get_or-drop, get_or-append_right, get_or-set_same, get_or-set_other}
+use Rattle.std.proofs.lemmas.List.{ext_get_or, get_or-map, length-map, get_or-replicate, length-replicate, get_or-take, get_or-drop, get_or-append_right, get_or-set_same, get_or-set_other}
+use Rattle.std.proofs.lemmas.List.Sums.{sum_by-cons}
 use Rattle.std.proofs.Math.Pow.{pow_mono}
 use Rattle.lg_value.specs.declared.bit.Bit.{Bit}
 use Rattle.lg_value.specs.declared.bit.Bit.TheVariants.{Zero, One, Unknown, Error}
-use Rattle.lg_value.specs.Bit.{same_bit, join_bits, equal_from_same_bit}
-use Rattle.lg_value.specs.Word.{IsWidth, IsDefined, join_words, number_of, bit_of_number, word_of_number}
-use Rattle.lg_value.specs.Storage.{IsStored, Stores, word_of_planes, first_digit, second_digit, bit_of_digits, length-word_of_planes, plane_of, digits_again, first_plane, second_plane}
+use Rattle.lg_value.specs.Bit.{same_bit, join_bits, and_bits, or_bits, xor_bits, equal_from_same_bit}
+use Rattle.lg_value.specs.Word.{IsWidth, IsDefined, each_pair, join_words, number_of, bit_of_number, word_of_number}
+use Rattle.lg_value.specs.Storage.{IsStored, Stores, word_of_planes, first_digit, second_digit, bit_of_digits, picked, length-word_of_planes, plane_of, digits_again, first_plane, second_plane}
 use Rattle.lg_value.proofs.BitLemmas.{both}
-use Rattle.lg_value.proofs.WordLemmas.{get_or-word_of_number, get_or-join_words, length-join_words, length-word_of_number, IsDefined-word_of_number, number_of-word_of_number}
+use Rattle.lg_value.proofs.WordLemmas.{get_or-word_of_number, get_or-each_pair, length-each_pair, join_words-each_pair, length-word_of_number, IsDefined-word_of_number, number_of-word_of_number}
 
 -- the bit that two planes hold at a place
 abbrev pub bit_in : ℕ → ℕ → ℕ → Bit
@@ -84,28 +85,19 @@ and_not_at a d i small inside = bit_at_and a (bit_not w64 d) i ∙ ap (λ x. min
 abbrev pub joined_second : ℕ → ℕ → ℕ → ℕ → ℕ
 joined_second a b c d = bit_or (bit_and b d) (bit_xor (bit_and a (bit_not w64 d)) (bit_and c (bit_not w64 b)))
 
+-- what the digits of two bits give, tried at all sixteen, is what a function of two bits gives at each place
+abbrev agrees : (ℕ → ℕ → ℕ → ℕ → Bit) → (Bit → Bit → Bit) → ℕ → ℕ → ℕ → ℕ → Bool
+agrees answer f p q r s = same_bit (answer p q r s) (f (bit_of_digits p q) (bit_of_digits r s))
+
+at_pairs : (answer : ℕ → ℕ → ℕ → ℕ → Bit) (f : Bit → Bit → Bit) → each_digit (λ p. each_digit (λ q. each_digit (λ r. each_digit (agrees answer f p q r)))) ≡ true → (a b c d i : ℕ) → answer (bit_at a i) (bit_at b i) (bit_at c i) (bit_at d i) ≡ f (bit_in a b i) (bit_in c d i)
+at_pairs answer f h a b c d i =
+    equal_from_same_bit (answer (bit_at a i) (bit_at b i) (bit_at c i) (bit_at d i)) (f (bit_in a b i) (bit_in c d i))
+    (at_planes (agrees answer f) h a b c d i)
+
 joined_bit : (a b c d i : ℕ) → b < 2 ^ 64 → d < 2 ^ 64 → i < 64 → bit_in (bit_or a c) (joined_second a b c d) i ≡ join_bits (bit_in a b i) (bit_in c d i)
 joined_bit a b c d i small less inside =
-    let p = bit_at a i in
-    let q = bit_at b i in
-    let r = bit_at c i in
-    let s = bit_at d i in
-    let answer : ℕ → ℕ → ℕ → ℕ → Bit = λ p q r s. bit_of_digits (max p r) (max (min q s) ((min p (1 - s) + min r (1 - q)) % 2)) in
-    let test : ℕ → ℕ → ℕ → ℕ → Bool = λ p q r s. same_bit (answer p q r s) (join_bits (bit_of_digits p q) (bit_of_digits r s)) in
-    let told : answer p q r s ≡ join_bits (bit_of_digits p q) (bit_of_digits r s) =
-    equal_from_same_bit (answer p q r s) (join_bits (bit_of_digits p q) (bit_of_digits r s)) (at_planes test refl a b c d i) in
     rw (bit_at_or a c i, bit_at_or (bit_and b d) (bit_xor (bit_and a (bit_not w64 d)) (bit_and c (bit_not w64 b))) i, bit_at_and b d i, bit_at_xor (bit_and a (bit_not w64 d)) (bit_and c (bit_not w64 b)) i, and_not_at a d i less inside, and_not_at c b i small inside)
-    told
-
-IsStored-joined : {width a b c d : ℕ} → IsStored width a b → IsStored width c d → IsStored width (bit_or a c) (joined_second a b c d)
-IsStored-joined {width} {a} {b} {c} {d} own others = record {
-  in_range = own.in_range;
-  first = or_lt width a c own.first others.first;
-  second = or_lt width (bit_and b d) (bit_xor (bit_and a (bit_not w64 d)) (bit_and c (bit_not w64 b)))
-      (omega (arith, and_le_l b d, own.second))
-      (xor_lt width (bit_and a (bit_not w64 d)) (bit_and c (bit_not w64 b))
-      (omega (arith, and_le_l a (bit_not w64 d), own.first)) (omega (arith, and_le_l c (bit_not w64 b), others.first)));
-}
+    (at_pairs (λ p q r s. bit_of_digits (max p r) (max (min q s) ((min p (1 - s) + min r (1 - q)) % 2))) join_bits refl a b c d i)
 
 -- words of one length are stored at one width
 same_width : {width a b other c d : ℕ} {u v : List Bit} → Stores width a b u → Stores other c d v → length u ≡ length v → Stores width c d v
@@ -113,20 +105,182 @@ same_width {width} {a} {b} {other} {c} {d} {u} {v} own others long =
     let same : other ≡ width = omega (arith, stored_width own, stored_width others, long) in
     subst (λ w. Stores w c d v) same others
 
+-- planes that hold what a function gives to each pair of bits of two words
+stored_pair : {width a b c d : ℕ} {u v : List Bit} → Stores width a b u → Stores width c d v → (f : Bit → Bit → Bit) (first second : ℕ) → first < 2 ^ width → second < 2 ^ width → ((i : ℕ) → i < 64 → bit_in first second i ≡ f (bit_in a b i) (bit_in c d i)) → Stores width first second (each_pair f u v)
+stored_pair {width} {a} {b} {c} {d} {u} {v} own more f first second low high bits =
+    stored_from_bits width first second (each_pair f u v)
+    record { in_range = own.stored.in_range; first = low; second = high }
+    (length-each_pair f u v (stored_width own ∙ sym (stored_width more)) ∙ stored_width own)
+    (λ i inside.
+    let left : get_or u i Zero ≡ bit_in a b i = stored_bit own i Zero inside in
+    let right : get_or v i Zero ≡ bit_in c d i = stored_bit more i Zero inside in
+    let long_u : i < length u = omega (arith, inside, stored_width own) in
+    let long_v : i < length v = omega (arith, inside, stored_width more) in
+    rw (get_or-each_pair f u v i Zero long_u long_v, left, right) (bits i (omega (arith, inside, own.stored.in_range.1))))
+
+-- a part of a plane does not pass a width
+and_lt : (width n m : ℕ) → n < 2 ^ width → bit_and n m < 2 ^ width
+and_lt width n m small = omega (arith, and_le_l n m, small)
+
 -- the planes of a join
 pub stored_join : {width a b other c d : ℕ} {u v : List Bit} → Stores width a b u → Stores other c d v → length u ≡ length v → Stores width (bit_or a c) (joined_second a b c d) (join_words u v)
 stored_join {width} {a} {b} {other} {c} {d} {u} {v} own others long =
     let more : Stores width c d v = same_width own others long in
-    stored_from_bits width (bit_or a c) (joined_second a b c d) (join_words u v) (IsStored-joined own.stored more.stored)
-    (length-join_words u v long ∙ stored_width own)
+    rw (join_words-each_pair u v)
+    (stored_pair own more join_bits (bit_or a c) (joined_second a b c d)
+    (or_lt width a c own.stored.first more.stored.first)
+    (or_lt width (bit_and b d) (bit_xor (bit_and a (bit_not w64 d)) (bit_and c (bit_not w64 b)))
+    (and_lt width b d own.stored.second)
+    (xor_lt width (bit_and a (bit_not w64 d)) (bit_and c (bit_not w64 b))
+    (and_lt width a (bit_not w64 d) own.stored.first) (and_lt width c (bit_not w64 b) more.stored.first)))
+    (λ i inside. joined_bit a b c d i (stored_below own.stored).1 (stored_below more.stored).1 inside))
+
+-- the places where neither of two words has a 0
+abbrev pub without_zero : ℕ → ℕ → ℕ → ℕ → ℕ
+without_zero a b c d = bit_and (bit_or a b) (bit_or c d)
+
+-- the planes of an AND
+pub stored_and : {width a b other c d : ℕ} {u v : List Bit} → Stores width a b u → Stores other c d v → length u ≡ length v → Stores width (without_zero a b c d) (bit_and (without_zero a b c d) (bit_or b d)) (each_pair and_bits u v)
+stored_and {width} {a} {b} {other} {c} {d} {u} {v} own others long =
+    let more : Stores width c d v = same_width own others long in
+    let low : without_zero a b c d < 2 ^ width = and_lt width (bit_or a b) (bit_or c d) (or_lt width a b own.stored.first own.stored.second) in
+    stored_pair own more and_bits (without_zero a b c d) (bit_and (without_zero a b c d) (bit_or b d)) low
+    (and_lt width (without_zero a b c d) (bit_or b d) low)
     (λ i inside.
-    let first : get_or u i Zero ≡ bit_in a b i = stored_bit own i Zero inside in
-    let second : get_or v i Zero ≡ bit_in c d i = stored_bit more i Zero inside in
-    let long_u : i < length u = omega (arith, inside, stored_width own) in
-    let long_v : i < length v = omega (arith, inside, stored_width more) in
-    let place : i < 64 = omega (arith, inside, own.stored.in_range.1) in
-    let bit = joined_bit a b c d i (stored_below own.stored).1 (stored_below more.stored).1 place in
-    rw (get_or-join_words u v i Zero long_u long_v, first, second) bit)
+    rw (bit_at_and (without_zero a b c d) (bit_or b d) i, bit_at_and (bit_or a b) (bit_or c d) i, bit_at_or a b i, bit_at_or c d i, bit_at_or b d i)
+    (at_pairs (λ p q r s. bit_of_digits (min (max p q) (max r s)) (min (min (max p q) (max r s)) (max q s))) and_bits refl a b c d i))
+
+-- the places where one of two words has a 1
+abbrev pub with_one : ℕ → ℕ → ℕ → ℕ → ℕ
+with_one a b c d = bit_or (bit_and a (bit_not w64 b)) (bit_and c (bit_not w64 d))
+
+with_one_at : (a b c d i : ℕ) → a < 2 ^ 64 → b < 2 ^ 64 → c < 2 ^ 64 → d < 2 ^ 64 → i < 64 → bit_at (bit_not w64 (with_one a b c d)) i ≡ 1 - max (min (bit_at a i) (1 - bit_at b i)) (min (bit_at c i) (1 - bit_at d i))
+with_one_at a b c d i small_a small_b small_c small_d inside =
+    let small : with_one a b c d < 2 ^ 64 =
+    or_lt 64 (bit_and a (bit_not w64 b)) (bit_and c (bit_not w64 d)) (and_lt 64 a (bit_not w64 b) small_a) (and_lt 64 c (bit_not w64 d) small_c) in
+    rw (bit_at_not w64 (with_one a b c d) i small inside, bit_at_or (bit_and a (bit_not w64 b)) (bit_and c (bit_not w64 d)) i, and_not_at a b i small_b inside, and_not_at c d i small_d inside) refl
+
+-- the planes of an OR
+pub stored_or : {width a b other c d : ℕ} {u v : List Bit} → Stores width a b u → Stores other c d v → length u ≡ length v → Stores width (bit_or (bit_or a c) (bit_or b d)) (bit_and (bit_or b d) (bit_not w64 (with_one a b c d))) (each_pair or_bits u v)
+stored_or {width} {a} {b} {other} {c} {d} {u} {v} own others long =
+    let more : Stores width c d v = same_width own others long in
+    let second : bit_or b d < 2 ^ width = or_lt width b d own.stored.second more.stored.second in
+    let small = stored_below own.stored in
+    let less = stored_below more.stored in
+    stored_pair own more or_bits (bit_or (bit_or a c) (bit_or b d)) (bit_and (bit_or b d) (bit_not w64 (with_one a b c d)))
+    (or_lt width (bit_or a c) (bit_or b d) (or_lt width a c own.stored.first more.stored.first) second)
+    (and_lt width (bit_or b d) (bit_not w64 (with_one a b c d)) second)
+    (λ i inside.
+    rw (bit_at_or (bit_or a c) (bit_or b d) i, bit_at_and (bit_or b d) (bit_not w64 (with_one a b c d)) i, with_one_at a b c d i small.0 small.1 less.0 less.1 inside, bit_at_or a c i, bit_at_or b d i)
+    (at_pairs (λ p q r s. bit_of_digits (max (max p r) (max q s)) (min (max q s) (1 - max (min p (1 - q)) (min r (1 - s))))) or_bits refl a b c d i))
+
+-- the planes of an XOR
+pub stored_xor : {width a b other c d : ℕ} {u v : List Bit} → Stores width a b u → Stores other c d v → length u ≡ length v → Stores width (bit_or (bit_xor a c) (bit_or b d)) (bit_or b d) (each_pair xor_bits u v)
+stored_xor {width} {a} {b} {other} {c} {d} {u} {v} own others long =
+    let more : Stores width c d v = same_width own others long in
+    let second : bit_or b d < 2 ^ width = or_lt width b d own.stored.second more.stored.second in
+    stored_pair own more xor_bits (bit_or (bit_xor a c) (bit_or b d)) (bit_or b d)
+    (or_lt width (bit_xor a c) (bit_or b d) (xor_lt width a c own.stored.first more.stored.first) second)
+    second
+    (λ i inside.
+    rw (bit_at_or (bit_xor a c) (bit_or b d) i, bit_at_xor a c i, bit_at_or b d i)
+    (at_pairs (λ p q r s. bit_of_digits (max ((p + r) % 2) (max q s)) (max q s)) xor_bits refl a b c d i))
+
+digit_chosen : (p low high : ℕ) → p < 2 → low < 2 → high < 2 → max (min low (1 - p)) (min high p) ≡ cond (eqb p 1) high low
+digit_chosen zero low high h k l = omega (arith, k)
+digit_chosen (suc zero) low high h k l = omega (arith, l)
+digit_chosen (suc (suc p)) low high h k l = absurd (omega (arith, h))
+
+-- the plane that has one plane's digits where another has a 1, and a third one's elsewhere
+abbrev pub chosen_of : ℕ → ℕ → ℕ → ℕ
+chosen_of plane low high = bit_or (bit_and low (bit_not w64 plane)) (bit_and high plane)
+
+pub chosen_at : (plane low high i : ℕ) → plane < 2 ^ 64 → i < 64 → bit_at (chosen_of plane low high) i ≡ cond (eqb (bit_at plane i) 1) (bit_at high i) (bit_at low i)
+chosen_at plane low high i small inside =
+    rw (bit_at_or (bit_and low (bit_not w64 plane)) (bit_and high plane) i, and_not_at low plane i small inside, bit_at_and high plane i)
+    (digit_chosen (bit_at plane i) (bit_at low i) (bit_at high i) (bit_at-lt plane i) (bit_at-lt low i) (bit_at-lt high i))
+
+pub chosen_below : (plane low high width : ℕ) → low < 2 ^ width → high < 2 ^ width → chosen_of plane low high < 2 ^ width
+chosen_below plane low high width small less =
+    or_lt width (bit_and low (bit_not w64 plane)) (bit_and high plane) (and_lt width low (bit_not w64 plane) small) (and_lt width high plane less)
+
+-- the digits of the four bits that are given for a bit's value, chosen by that bit's digits
+pub picked_digits : (p q za zb oa ob ua ub ea eb : ℕ) → p < 2 → q < 2 → bit_of_digits (cond (eqb q 1) (cond (eqb p 1) ea ua) (cond (eqb p 1) oa za)) (cond (eqb q 1) (cond (eqb p 1) eb ub) (cond (eqb p 1) ob zb)) ≡ picked (bit_of_digits za zb) (bit_of_digits oa ob) (bit_of_digits ua ub) (bit_of_digits ea eb) (bit_of_digits p q)
+picked_digits zero zero za zb oa ob ua ub ea eb h k = refl
+picked_digits (suc zero) zero za zb oa ob ua ub ea eb h k = refl
+picked_digits zero (suc zero) za zb oa ob ua ub ea eb h k = refl
+picked_digits (suc zero) (suc zero) za zb oa ob ua ub ea eb h k = refl
+picked_digits (suc (suc p)) q za zb oa ob ua ub ea eb h k = absurd (omega (arith, h))
+picked_digits zero (suc (suc q)) za zb oa ob ua ub ea eb h k = absurd (omega (arith, k))
+picked_digits (suc zero) (suc (suc q)) za zb oa ob ua ub ea eb h k = absurd (omega (arith, k))
+
+-- what holds of each value and the bit that is given for it holds of a bit and the one picked for it
+pub at_picked : (P : Bit → Bit → Type 0) (low high floating fault : Bit) → P Zero low → P One high → P Unknown floating → P Error fault → (bit : Bit) → P bit (picked low high floating fault bit)
+at_picked P low high floating fault l h f e Zero = l
+at_picked P low high floating fault l h f e One = h
+at_picked P low high floating fault l h f e Unknown = f
+at_picked P low high floating fault l h f e Error = e
+
+-- planes that hold what a function gives to each bit of a word
+pub stored_map : {width a b : ℕ} {word : List Bit} → Stores width a b word → (f : Bit → Bit) (first second : ℕ) → first < 2 ^ width → second < 2 ^ width → ((i : ℕ) → i < width → bit_in first second i ≡ f (bit_in a b i)) → Stores width first second (map f word)
+stored_map {width} {a} {b} {word} own f first second low high bits =
+    stored_from_bits width first second (map f word)
+    record { in_range = own.stored.in_range; first = low; second = high }
+    (length-map word f ∙ stored_width own)
+    (λ i inside.
+    let bit : get_or word i Zero ≡ bit_in a b i = stored_bit own i Zero inside in
+    let long : i < length word = omega (arith, inside, stored_width own) in
+    rw (get_or-map f word i Zero Zero long, bit) (bits i inside))
+
+-- a stored word of one bit over and over, at its width
+pub stored_one_bit : {own a b : ℕ} {word : List Bit} → Stores own a b word → (width : ℕ) (bit : Bit) → word ≡ replicate width bit → Stores width a b (replicate width bit)
+stored_one_bit {own} {a} {b} {word} stores width bit is =
+    let wide : own ≡ width = omega (arith, stored_width stores, ap length is, length-replicate width bit) in
+    subst (λ w. Stores w a b (replicate width bit)) wide (subst (λ w. Stores own a b w) is stores)
+
+ones_of_digit : (n : ℕ) → n < 2 → count_ones n ≡ n
+unfolding count_ones
+ones_of_digit zero h = refl
+ones_of_digit (suc zero) h = refl
+ones_of_digit (suc (suc n)) h = absurd (omega (arith, h))
+
+pub one_bit_at : {width a b : ℕ} {bit : Bit} → Stores width a b (replicate width bit) → (i : ℕ) → i < width → bit_in a b i ≡ bit
+one_bit_at {width} {a} {b} {bit} stores i inside = sym (stored_bit stores i Zero inside) ∙ get_or-replicate width i bit Zero inside
+
+-- the number of a plane's ones is that of a word's, where its ones stand at the word's
+pub ones_of_plane : (plane : ℕ) (word : List Bit) → plane < 2 ^ length word → ((i : ℕ) → i < length word → bit_at plane i ≡ cond (same_bit One (get_or word i Zero)) 1 0) → count_ones plane ≡ count_by (same_bit One) word
+unfolding count_ones
+ones_of_plane plane [] small ones =
+    let none : plane ≡ 0 = omega (arith, small) in
+    ap count_ones none
+ones_of_plane plane (bit ∷ rest) small ones =
+    let split : plane ≡ plane / 2 * 2 ^ 1 + plane % 2 = omega arith in
+    let parts : count_ones (plane / 2 * 2 ^ 1 + plane % 2) ≡ count_ones (plane / 2) + count_ones (plane % 2) = ones_cat 1 (plane / 2) (plane % 2) (omega arith) in
+    let lowest : plane % 2 ≡ cond (same_bit One bit) 1 0 = sym (bit_at_lowest plane) ∙ ones 0 (omega arith) in
+    let few : count_ones (plane % 2) ≡ plane % 2 = ones_of_digit (plane % 2) (omega arith) in
+    let above : count_ones (plane / 2) ≡ count_by (same_bit One) rest = ones_of_plane (plane / 2) rest
+    (omega (arith, small, pow-succ' 2 (length rest)))
+    (λ i inside. sym (bit_at-suc plane i) ∙ ones (suc i) (omega (arith, inside))) in
+    ap count_ones split ∙ parts ∙ omega (arith, few, lowest, above, sum_by-cons (λ (b : Bit). cond (same_bit One b) 1 0) bit rest)
+
+one_digit : (p q : ℕ) → p < 2 → q < 2 → min p (1 - q) ≡ cond (same_bit One (bit_of_digits p q)) 1 0
+one_digit zero zero h k = refl
+one_digit (suc zero) zero h k = refl
+one_digit zero (suc zero) h k = refl
+one_digit (suc zero) (suc zero) h k = refl
+one_digit (suc (suc p)) q h k = absurd (omega (arith, h))
+one_digit zero (suc (suc q)) h k = absurd (omega (arith, k))
+one_digit (suc zero) (suc (suc q)) h k = absurd (omega (arith, k))
+
+-- the number of a word's ones is that of the places with a 1 in the first plane alone
+pub stored_ones : {width a b : ℕ} {word : List Bit} → Stores width a b word → count_ones (bit_and a (bit_not w64 b)) ≡ count_by (same_bit One) word
+stored_ones {width} {a} {b} {word} own =
+    ones_of_plane (bit_and a (bit_not w64 b)) word
+    (rw (stored_width own) (and_lt width a (bit_not w64 b) own.stored.first))
+    (λ i inside.
+    let below : i < width = omega (arith, inside, stored_width own) in
+    rw (stored_bit own i Zero below, and_not_at a b i (stored_below own.stored).1 (omega (arith, below, own.stored.in_range.1)))
+    (one_digit (bit_at a i) (bit_at b i) (bit_at-lt a i) (bit_at-lt b i)))
 
 repeated : (digit width i : ℕ) → digit < 2 → i < width → bit_at (digit * (2 ^ width - 1)) i ≡ digit
 repeated zero width i h inside = ap (λ n. bit_at n i) (omega arith) ∙ bit_at-zero i

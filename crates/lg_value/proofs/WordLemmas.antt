@@ -6,7 +6,7 @@ use Rattle.std.specs.Int.{bit_at}
 use Rattle.std.proofs.Math.Nat.{pow-succ', mul_comm}
 use Rattle.std.proofs.Math.Arith.{mod-mul}
 use Rattle.std.proofs.lemmas.Nat.{pow_pos}
-use Rattle.std.proofs.lemmas.List.{take_more, get_or-replicate, length-replicate}
+use Rattle.std.proofs.lemmas.List.{take_more, ext_get_or, get_or-map, length-map, get_or-replicate, length-replicate}
 use Rattle.std.proofs.lemmas.List.Elements.{recursion_from_All, All-head, All-tail, All-map}
 use Rattle.std.proofs.lemmas.List.FromFn.{get_or-map-range_with_len, length-map-range_with_len, map-range_with_len_more}
 use Rattle.std.proofs.lemmas.List.Sums.{sum_by-cons}
@@ -15,7 +15,7 @@ use Rattle.std.proofs.lemmas.Slice.Eq.{slice_eq-Decides}
 use Rattle.lg_value.specs.declared.bit.Bit.{Bit}
 use Rattle.lg_value.specs.declared.bit.Bit.TheVariants.{Zero, One, Unknown, Error}
 use Rattle.lg_value.specs.Bit.{join_bits, digit_of}
-use Rattle.lg_value.specs.Word.{IsDefined, same_word, bit_of_number, join_words, number_of, word_of_number}
+use Rattle.lg_value.specs.Word.{IsDefined, same_word, bit_of_number, each_pair, join_words, number_of, word_of_number}
 use Rattle.lg_value.specs.Drivers.{join_of_drivers}
 use Rattle.lg_value.proofs.BitLemmas.{Decides-same_bit}
 use Rattle.lg_value.proofs.DriverLemmas.{joined_in_turn_lem}
@@ -170,17 +170,37 @@ word_of_number-number_of (b ∷ rest) h =
     rw (number_of-cons b rest, word_of_number-suc (length rest) (digit_of b + 2 * number_of rest), half_again b (number_of rest), bit_again b (number_of rest) low, word_of_number-number_of rest high)
     refl
 
+-- a word that has each bit changed by f
+pub mapped_word : (f : Bit → Bit) (word changed : List Bit) → length changed ≡ length word → ((k : ℕ) → k < length word → get_or changed k Unknown ≡ f (get_or word k Unknown)) → changed ≡ map f word
+mapped_word f word changed wide bits =
+    ext_get_or Unknown changed (map f word) (wide ∙ sym (length-map word f))
+    (λ k h. let inside : k < length word = omega (arith, h, wide) in
+    bits k inside ∙ sym (get_or-map f word k Unknown Unknown inside))
+
+-- the bit of two words at a place, bit by bit
+pub get_or-each_pair : (f : Bit → Bit → Bit) (a b : List Bit) (i : ℕ) (d : Bit) → i < length a → i < length b → get_or (each_pair f a b) i d ≡ f (get_or a i d) (get_or b i d)
+get_or-each_pair f [] b i d h k = absurd (omega (arith, h))
+get_or-each_pair f (x ∷ a) [] i d h k = absurd (omega (arith, k))
+get_or-each_pair f (x ∷ a) (y ∷ b) zero d h k = refl
+get_or-each_pair f (x ∷ a) (y ∷ b) (suc i) d h k = get_or-each_pair f a b i d (omega (arith, h)) (omega (arith, k))
+
+pub length-each_pair : (f : Bit → Bit → Bit) (a b : List Bit) → length a ≡ length b → length (each_pair f a b) ≡ length a
+length-each_pair f [] b h = refl
+length-each_pair f (x ∷ a) [] h = sym h
+length-each_pair f (x ∷ a) (y ∷ b) h = ap suc (length-each_pair f a b (omega (arith, h)))
+
+-- the join of words joins each pair
+pub join_words-each_pair : (a b : List Bit) → join_words a b ≡ each_pair join_bits a b
+join_words-each_pair [] b = refl
+join_words-each_pair (x ∷ a) [] = refl
+join_words-each_pair (x ∷ a) (y ∷ b) = ap (λ rest. join_bits x y ∷ rest) (join_words-each_pair a b)
+
 -- the bit of the join at a place
 pub get_or-join_words : (a b : List Bit) (i : ℕ) (d : Bit) → i < length a → i < length b → get_or (join_words a b) i d ≡ join_bits (get_or a i d) (get_or b i d)
-get_or-join_words [] b i d h k = absurd (omega (arith, h))
-get_or-join_words (x ∷ a) [] i d h k = absurd (omega (arith, k))
-get_or-join_words (x ∷ a) (y ∷ b) zero d h k = refl
-get_or-join_words (x ∷ a) (y ∷ b) (suc i) d h k = get_or-join_words a b i d (omega (arith, h)) (omega (arith, k))
+get_or-join_words a b i d h k = ap (λ w. get_or w i d) (join_words-each_pair a b) ∙ get_or-each_pair join_bits a b i d h k
 
 pub length-join_words : (a b : List Bit) → length a ≡ length b → length (join_words a b) ≡ length a
-length-join_words [] b h = refl
-length-join_words (x ∷ a) [] h = sym h
-length-join_words (x ∷ a) (y ∷ b) h = ap suc (length-join_words a b (omega (arith, h)))
+length-join_words a b h = ap length (join_words-each_pair a b) ∙ length-each_pair join_bits a b h
 
 -- the test for being the same word decides it
 pub Decides-same_word : (a b : List Bit) → Decides (same_word a b) (a ≡ b)

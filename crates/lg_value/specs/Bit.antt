@@ -24,6 +24,28 @@ not_bit Zero = One
 not_bit One = Zero
 not_bit _ = Error
 
+-- AND of two bits: one 0 decides; without one the answer is 1, if both are known to be 1
+abbrev pub and_bits : Bit → Bit → Bit
+and_bits Zero _ = Zero
+and_bits _ Zero = Zero
+and_bits One One = One
+and_bits _ _ = Error
+
+-- OR of two bits: one 1 decides; without one the answer is 0, if both are known to be 0
+abbrev pub or_bits : Bit → Bit → Bit
+or_bits One _ = One
+or_bits _ One = One
+or_bits Zero Zero = Zero
+or_bits _ _ = Error
+
+-- XOR of two bits: an undefined bit gives an error, else 1 where they differ
+abbrev pub xor_bits : Bit → Bit → Bit
+xor_bits Zero Zero = Zero
+xor_bits Zero One = One
+xor_bits One Zero = One
+xor_bits One One = Zero
+xor_bits _ _ = Error
+
 -- the bit of a wire that two drivers share: an unknown bit yields to the other, equal bits stay,
 -- and all else is an error
 abbrev pub join_bits : Bit → Bit → Bit

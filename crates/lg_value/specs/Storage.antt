@@ -25,6 +25,13 @@ bit_of_digits (suc _) zero = One
 bit_of_digits zero (suc _) = Unknown
 bit_of_digits (suc _) (suc _) = Error
 
+-- the one of four bits that is given for a bit's value
+abbrev pub picked : Bit → Bit → Bit → Bit → Bit → Bit
+picked low high floating fault Zero = low
+picked low high floating fault One = high
+picked low high floating fault Unknown = floating
+picked low high floating fault Error = fault
+
 -- the word of some width that two planes hold: bit 0 stands in their lowest digits
 unfoldable pub word_of_planes : ℕ → ℕ → ℕ → List Bit
 word_of_planes zero a b = []

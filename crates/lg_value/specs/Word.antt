@@ -19,6 +19,11 @@ IsDefined word = All (λ bit. (bit ≡ Zero) ⊎ (bit ≡ One)) word
 abbrev pub same_word : List Bit → List Bit → Bool
 same_word a b = pointwise same_bit a b
 
+-- two words of one width, bit by bit
+abbrev pub each_pair : (Bit → Bit → Bit) → List Bit → List Bit → List Bit
+each_pair f (a ∷ low) (b ∷ more) = f a b ∷ each_pair f low more
+each_pair f _ _ = []
+
 -- two words of one width, joined bit by bit
 abbrev pub join_words : List Bit → List Bit → List Bit
 join_words (a ∷ low) (b ∷ more) = join_bits a b ∷ join_words low more

@@ -65,3 +65,12 @@ pub(crate) fn with_digit(plane: u64, place: u32, digit: u64) -> u64
 {
     (plane & !(1 << place)) | (digit << place)
 }
+
+// At each place the digit of `high` where the plane has a 1, else that of `low`.
+pub(crate) fn chosen(plane: u64, low: u64, high: u64) -> u64
+    ensures digits { (i : ℕ) → i < 64
+        → bit_at result i ≡ (if bit_at plane i == 1 then bit_at high i else bit_at low i) }
+    ensures fits { (width : ℕ) → low < 2 ^ width → high < 2 ^ width → result < 2 ^ width }
+{
+    (low & !plane) | (high & plane)
+}

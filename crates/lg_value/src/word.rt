@@ -1,13 +1,17 @@
 //! A word of 1 to 64 bits.
 
-ghost use Rattle.std.specs.Prelude.{◌≡◌, ◌+◌, ◌%◌, ◌^◌, ◌<◌, ◌≤◌, ◌↔◌, ◌++◌, length, replicate, take, drop, slice_get, slice_set, IsTrue, Some};
+ghost use Rattle.std.specs.Prelude.{◌≡◌, ◌+◌, ◌%◌, ◌^◌, ◌<◌, ◌≤◌, ◌↔◌, ◌++◌, length, ℕ, map, replicate, take, drop, slice_get, slice_index_or, slice_set, count_by, IsTrue, Some};
 ghost use Rattle.std.specs.Cmp.{partial_equiv_from_equiv};
 ghost use Rattle.std.proofs.lemmas.Cmp.{lists_equiv};
-ghost use Rattle.lg_value.specs.Bit.{same_bit_equiv};
-ghost use Rattle.lg_value.specs.Word.{IsWidth, IsDefined, same_word, join_words, number_of, word_of_number};
+ghost use Rattle.lg_value.specs.declared.bit.Bit.{Bit};
+ghost use Rattle.lg_value.specs.Bit.{same_bit, same_bit_equiv, and_bits, or_bits, xor_bits};
+ghost use Rattle.lg_value.specs.Storage.{picked};
+ghost use Rattle.lg_value.specs.Word.{IsWidth, IsDefined, same_word, join_words, each_pair, number_of, word_of_number};
 
 use crate::bit::Bit;
-use crate::planes::{bit_of_digits, digit_at, first_digit, low_ones, second_digit, with_digit};
+use crate::planes::{
+    bit_of_digits, chosen, digit_at, first_digit, low_ones, second_digit, with_digit,
+};
 use std::marker::Model;
 
 /// A word of 1 to 64 bits. In a contract it is the list of its bits, bit 0 first.
@@ -133,6 +137,98 @@ impl Word {
             b: (self.b & other.b) | unlike,
             width: self.width,
         }
+    }
+
+    /// The AND of two words, bit by bit. A Zero gives Zero, and else an undefined bit gives Error.
+    /// Their widths are equal.
+    pub fn and(&self, other: &Word) -> Word
+        requires { length self.now ≡ length other.now }
+        ensures bits { result ≡ each_pair and_bits self.now other.now }
+        ensures width { length result ≡ length self.now }
+    {
+        let no_zero = (self.a | self.b) & (other.a | other.b);
+        Word {
+            a: no_zero,
+            b: no_zero & (self.b | other.b),
+            width: self.width,
+        }
+    }
+
+    /// The OR of two words, bit by bit. A One gives One, and else an undefined bit gives Error.
+    /// Their widths are equal.
+    pub fn or(&self, other: &Word) -> Word
+        requires { length self.now ≡ length other.now }
+        ensures bits { result ≡ each_pair or_bits self.now other.now }
+        ensures width { length result ≡ length self.now }
+    {
+        let some_one = (self.a & !self.b) | (other.a & !other.b);
+        let undefined = self.b | other.b;
+        Word {
+            a: (self.a | other.a) | undefined,
+            b: undefined & !some_one,
+            width: self.width,
+        }
+    }
+
+    /// The XOR of two words, bit by bit. An undefined bit gives Error. Their widths are equal.
+    pub fn xor(&self, other: &Word) -> Word
+        requires { length self.now ≡ length other.now }
+        ensures bits { result ≡ each_pair xor_bits self.now other.now }
+        ensures width { length result ≡ length self.now }
+    {
+        let undefined = self.b | other.b;
+        Word {
+            a: (self.a ^ other.a) | undefined,
+            b: undefined,
+            width: self.width,
+        }
+    }
+
+    /// The word with each bit changed. `change` is called once for each of the four bits.
+    pub fn map<F: Fn(Bit) -> Bit>(&self, change: F) -> Word
+        requires { F.IsAlwaysCallable change }
+        ensures bits { (k : ℕ) → k < length self.now → F.post change
+            (slice_index_or self.now k Bit.Unknown) (slice_index_or result k Bit.Unknown) }
+        ensures width { length result ≡ length self.now }
+    {
+        self.replaced(
+            change(Bit::Zero),
+            change(Bit::One),
+            change(Bit::Unknown),
+            change(Bit::Error),
+        )
+    }
+
+    // The word with each bit replaced by the one that is given for its value.
+    fn replaced(&self, zero: Bit, one: Bit, unknown: Bit, error: Bit) -> Word
+        ensures bits { result ≡ map (picked zero one unknown error) self.now }
+        ensures width { length result ≡ length self.now }
+    {
+        let zeros = Word::fill(self.width, zero);
+        let ones = Word::fill(self.width, one);
+        let unknowns = Word::fill(self.width, unknown);
+        let errors = Word::fill(self.width, error);
+        Word {
+            a: chosen(
+                self.b,
+                chosen(self.a, zeros.a, ones.a),
+                chosen(self.a, unknowns.a, errors.a),
+            ),
+            b: chosen(
+                self.b,
+                chosen(self.a, zeros.b, ones.b),
+                chosen(self.a, unknowns.b, errors.b),
+            ),
+            width: self.width,
+        }
+    }
+
+    /// How many bits are One.
+    pub fn ones(&self) -> u32
+        ensures ones { result ≡ count_by (same_bit Bit.One) self.now }
+        ensures inside { result ≤ length self.now }
+    {
+        (self.a & !self.b).count_ones()
     }
 
     /// The `width` bits from place `low` on. There is at least one, and all lie inside.
