@@ -1,6 +1,6 @@
--- At most one thing is due for words and contents, and but for `vrun` one is.
+-- One thing is due for words and contents.
 use Rattle.std.proofs.Common.{◌≡◌, ℕ, ◌^◌, ◌<◌, ◌≤◌, Bool, true, false, List, [], ◌∷◌, length, Option, Some, None, refl, sym, ap, subst, ◌∙◌, arith, inl, inr, ◌⊎◌}
-use Rattle.std.specs.Prelude.{nat_lt, MatchBool, All}
+use Rattle.std.specs.Prelude.{◌≢◌, nat_lt, MatchBool, All}
 use Rattle.std.specs.List.{list_all, zip}
 use Rattle.std.proofs.lemmas.Bool.{false≢true, ltb-false}
 use Rattle.lg_circ.specs.declared.project.Sheet.{Sheet}
@@ -24,7 +24,11 @@ use Rattle.lg_vtree.specs.declared.module.Module.{Module}
 use Rattle.lg_vtree.specs.Printed.{module_text}
 use Rattle.lg_vmeaning.specs.Valid.{IsValid}
 use Rattle.lg_vrows.specs.declared.fault.ModuleFault.{ModuleFault}
+use Rattle.lg_vrows.specs.declared.fault.ModuleFault.TheVariants as module_fault
 use Rattle.lg_vrows.specs.declared.fault.RowsFault.{RowsFault}
+use Rattle.lg_vrows.specs.declared.fault.RowsFault.TheVariants as rows_fault
+use Rattle.lg_vrows.specs.Due.{IsValidText, IsModuleFault, IsRowsText, IsRowsFault}
+use Rattle.lg_vrows.proofs.Judged.{module_or_fault, rows_or_fault}
 use Rattle.lg_vrows.proofs.OneModule.{one_valid, no_fault as no_module_fault, one_fault as one_module_fault}
 use Rattle.lg_vrows.proofs.OneText.{one_text, no_fault as no_rows_fault, one_fault as one_rows_fault}
 use Rattle.lg_run.specs.declared.status.Status.{Status}
@@ -247,11 +251,36 @@ same_for (Some c) held a b h k = same_command c held a b h k
 pub same_due : (words : List (List ℕ)) (held : Held) (a b : Due) → IsDue words (Some held) a → IsDue words (Some held) b → a ≡ b
 same_due words held a b h k = same_for (command_of words) held a b h k
 
--- and something is, but for `vrun`
-pub some_due : (words : List (List ℕ)) (held : Held) → ((of_module of_rows : List ℕ) → command_of words ≡ Some (Vrun of_module of_rows) → ⊥) → (due : Due) × IsDue words (Some held) due
-some_due words held other = by (command_of words) other
+-- rows on a module have a text or a reason
+some_rows : (m : Module) → IsValid m → (file : List ℕ) (found : Option (List ℕ)) → (due : Due) × IsRowsDue m file found due
+some_rows m valid file None = (Stops (Input Missing) file, refl)
+some_rows m valid file (Some bytes) = by (nat_lt ROWS_LENGTH (length bytes)) (rows_or_fault m valid bytes)
   where
-    by : (asked : Option Command) → ((of_module of_rows : List ℕ) → asked ≡ Some (Vrun of_module of_rows) → ⊥) → (due : Due) × IsDueFor asked (Some held) due
-    by None other = (Stops Usage [], refl)
-    by (Some (Export file)) other = let one = of_file file (held file) in (one.0, (held file, refl, one.1))
-    by (Some (Vrun of_module of_rows)) other = absurd (other of_module of_rows refl)
+    by : (long : Bool) → ((text : List ℕ) × IsRowsText m bytes text) ⊎ ((fault : RowsFault) × (fault ≢ rows_fault.Memory) × IsRowsFault m bytes fault)
+        → (due : Due) × MatchBool long (due ≡ Stops (Input TooLong) file) (IsOutputsDue m file bytes due)
+    by true told = (Stops (Input TooLong) file, refl)
+    by false (inl (text, is)) = (Writes Done text, (refl, is))
+    by false (inr (fault, known, is)) = (Stops (Input (OfRows fault)) file, (refl, (fault, known, is, refl)))
+
+some_vrun : (of_module of_rows : List ℕ) (found rows : Option (List ℕ)) → (due : Due) × IsVrunDue of_module of_rows found rows due
+some_vrun of_module of_rows None rows = (Stops (Input Missing) of_module, refl)
+some_vrun of_module of_rows (Some bytes) rows = by (nat_lt MODULE_LENGTH (length bytes)) refl
+  where
+    on : ((m : Module) × IsValidText bytes m) ⊎ ((fault : ModuleFault) × (fault ≢ module_fault.Memory) × IsModuleFault bytes fault)
+        → (due : Due) × IsValidDue of_module of_rows bytes rows due
+    on (inl (m, text)) = let so = some_rows m text.valid of_rows rows in (so.0, OnModule m text so.1)
+    on (inr (fault, known, is)) = (Stops (Input (OfModule fault)) of_module, NoModule fault known is refl)
+
+    by : (long : Bool) → nat_lt MODULE_LENGTH (length bytes) ≡ long
+        → (due : Due) × MatchBool long (due ≡ Stops (Input TooLong) of_module) (IsValidDue of_module of_rows bytes rows due)
+    by true e = (Stops (Input TooLong) of_module, refl)
+    by false e = on (module_or_fault bytes (ltb-false MODULE_LENGTH (length bytes) e))
+
+-- and something is
+pub some_due : (words : List (List ℕ)) (held : Held) → (due : Due) × IsDue words (Some held) due
+some_due words held = by (command_of words)
+  where
+    by : (asked : Option Command) → (due : Due) × IsDueFor asked (Some held) due
+    by None = (Stops Usage [], refl)
+    by (Some (Export file)) = let one = of_file file (held file) in (one.0, (held file, refl, one.1))
+    by (Some (Vrun of_module of_rows)) = let one = some_vrun of_module of_rows (held of_module) (held of_rows) in (one.0, (held of_module, held of_rows, refl, refl, one.1))

@@ -15,11 +15,10 @@ ghost use Rattle.lg_run.specs.Due.{Held, Due, Writes, module_length, rows_length
 ghost use Rattle.lg_run.specs.StaticText.{IsStaticText};
 ghost use Rattle.lg_run.specs.Words.{Vrun, command_of};
 
-/// For all words and contents at most one thing is due; and but for `vrun`, something is.
+/// For all words and contents one thing is due, and no other.
 pub fn one_is_due()
     ensures one { (words : List (List ℕ)) (held : Held) (due other : Due) → IsDue words (Some held) due → IsDue words (Some held) other → other ≡ due }
-    ensures some { (words : List (List ℕ)) (held : Held) →
-        ((of_module of_rows : List ℕ) → command_of words ≡ Some (Vrun of_module of_rows) → ⊥) → (due : Due) × IsDue words (Some held) due }
+    ensures some { (words : List (List ℕ)) (held : Held) → (due : Due) × IsDue words (Some held) due }
 {}
 
 /// Where one file holds a valid module, and the other rows that are bound to its inputs and defined, both within the limits,

@@ -11,3 +11,4 @@ pub mod OneFault
 pub mod OneText
 pub mod SomeOrder
 pub mod SomeText
+pub mod Judged

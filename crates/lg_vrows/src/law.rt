@@ -1,6 +1,6 @@
 //! Laws of what is due.
 
-ghost use Rattle.std.specs.Prelude.{◌≡◌, ◌≢◌, ℕ, List, All};
+ghost use Rattle.std.specs.Prelude.{◌≡◌, ◌≢◌, ◌≤◌, ◌⊎◌, ℕ, List, All, length};
 ghost use Rattle.lg_vtree.specs.declared.module.Module.{Module as Tree};
 ghost use Rattle.lg_vmeaning.specs.Valid.{IsValid};
 ghost use Rattle.lg_vrows.specs.Rows.{AreBoundRows, IsDefinedRow};
@@ -33,4 +33,16 @@ pub fn rows_have_one_answer()
 pub fn defined_rows_have_outputs()
     ensures { (m : Tree) → IsValid m → (bytes : List ℕ) (given : AreBoundRows m bytes) → All IsDefinedRow given.rows →
         (text : List ℕ) × IsRowsText m bytes text }
+{}
+
+/// But for want of memory, bytes within the reader's length are a text of a valid module or have a fault as one.
+pub fn texts_are_modules_or_not()
+    ensures { (bytes : List ℕ) → length bytes ≤ 134217728 →
+        ((m : Tree) × IsValidText bytes m) ⊎ ((fault : NoModule) × (fault ≢ NoMemory) × IsModuleFault bytes fault) }
+{}
+
+/// But for want of memory, bytes have a text of outputs as rows for a valid module, or a fault as these.
+pub fn texts_are_rows_or_not()
+    ensures { (m : Tree) → IsValid m → (bytes : List ℕ) →
+        ((text : List ℕ) × IsRowsText m bytes text) ⊎ ((fault : NoRows) × (fault ≢ NoMemoryLeft) × IsRowsFault m bytes fault) }
 {}

@@ -1,14 +1,16 @@
 -- The graph of assigns: a way in it is a chain of names that read one another.
-use Rattle.std.proofs.Common.{◌≡◌, ℕ, zero, suc, ◌+◌, ◌<◌, Bool, true, false, cond, ◌||◌, ◌⊎◌, inl, inr, List, [], ◌∷◌, ◌++◌, length, map, get_or, Option, Some, None, refl, sym, ap, subst, ◌∙◌, arith}
+use Rattle.std.proofs.Common.{◌≡◌, ℕ, zero, suc, ◌+◌, ◌<◌, ◌≤◌, Bool, true, false, cond, ◌||◌, ◌⊎◌, inl, inr, List, [], ◌∷◌, ◌++◌, length, map, get_or, Option, Some, None, refl, sym, ap, subst, ◌∙◌, arith}
 use Rattle.std.specs.Prelude.{not, slice_get, slice_index, option_map, unwrap_or, Contains, IsTrue, ◌↔◌}
 use Rattle.std.specs.Str.{bytes_eq}
-use Rattle.std.proofs.lemmas.Bool.{and_parts, false≢true}
+use Rattle.std.proofs.lemmas.Bool.{and_parts, cases_lt, false≢true}
 use Rattle.std.proofs.lemmas.List.{length-map}
 use Rattle.std.proofs.lemmas.List.Elements.{Contains-append_right, Contains-get_or}
 use Rattle.std.proofs.lemmas.Option.{same_Some, slice_get-map, slice_get_within, slice_get-get_or, get_or_from_slice_get, unwrap_or-slice_get}
 use Rattle.std.proofs.lemmas.Slice.Eq.{bytes_eq-Decides}
 use Rattle.lg_graph.specs.Graph.{Graph, IsGraph, HasArrow, IsWay, Leads, StandsBefore, IsSorted}
 use Rattle.lg_graph.specs.declared.sorting.Sorted.{Sorted}
+use Rattle.lg_text.proofs.Deciding.{Decided}
+use Rattle.lg_graph.proofs.Ways.{nothing, Contains-cons_cases, leads_or_not}
 use Rattle.lg_vtree.specs.declared.module.Assign.{Assign}
 use Rattle.lg_vtree.specs.declared.module.Module.{Module}
 use Rattle.lg_vrules.specs.Rules.{is_among, all_differ}
@@ -28,20 +30,10 @@ cons_first x xs = (0, omega arith, refl)
 cons_later : {X : Type 0} (x y : X) (xs : List X) → Contains xs y → Contains (x ∷ xs) y
 cons_later x y xs c = (suc c.0, omega (arith, c.1), c.2)
 
-cons_cases : {X : Type 0} (x y : X) (xs : List X) → Contains (x ∷ xs) y → (x ≡ y) ⊎ Contains xs y
-cons_cases x y xs c = step c.0 c.1 c.2
-  where
-    step : (k : ℕ) → k < length (x ∷ xs) → get_or (x ∷ xs) k y ≡ y → (x ≡ y) ⊎ Contains xs y
-    step zero lt e = inl e
-    step (suc k) lt e = inr (k, omega (arith, lt), e)
-
-none_in : {X : Type 0} (y : X) → Contains [] y → ⊥
-none_in y c = absurd (omega (arith, c.1))
-
 -- places
 
 of_place : (place : List ℕ → Option ℕ) (some : List (List ℕ)) (k : ℕ) → Contains (places_of place some) k → (name : List ℕ) × Contains some name × (place name ≡ Some k)
-of_place place [] k c = absurd (none_in k c)
+of_place place [] k c = absurd (nothing c)
 of_place place (n ∷ some) k c = step (place n) refl c (λ d. of_place place some k d)
   where
     wider : ((name : List ℕ) × Contains some name × (place name ≡ Some k)) → (name : List ℕ) × Contains (n ∷ some) name × (place name ≡ Some k)
@@ -50,14 +42,14 @@ of_place place (n ∷ some) k c = step (place n) refl c (λ d. of_place place so
     step : (o : Option ℕ) → place n ≡ o → Contains (place_list o ++ places_of place some) k → (Contains (places_of place some) k → (name : List ℕ) × Contains some name × (place name ≡ Some k))
         → (name : List ℕ) × Contains (n ∷ some) name × (place name ≡ Some k)
     step None e c rest = wider (rest c)
-    step (Some p) e c rest = elim (cons_cases p k (places_of place some) c) [
+    step (Some p) e c rest = elim (Contains-cons_cases p (places_of place some) k c) [
       | inl same ↦ (n, cons_first n some, e ∙ ap Some same)
       | inr later ↦ wider (rest later)
     ]
 
 in_places : (place : List ℕ → Option ℕ) (some : List (List ℕ)) (name : List ℕ) (k : ℕ) → Contains some name → place name ≡ Some k → Contains (places_of place some) k
-in_places place [] name k c e = absurd (none_in name c)
-in_places place (n ∷ some) name k c e = elim (cons_cases n name some c) [
+in_places place [] name k c e = absurd (nothing c)
+in_places place (n ∷ some) name k c e = elim (Contains-cons_cases n some name c) [
   | inl same ↦ subst (λ (o : Option ℕ). Contains (place_list o ++ places_of place some) k) (sym (ap place same ∙ e)) (cons_first k (places_of place some))
   | inr later ↦ Contains-append_right (place_list (place n)) (places_of place some) k (in_places place some name k later e)
 ]
@@ -161,7 +153,7 @@ module _ (m : Module) (differ : all_differ (names m.assigns) ≡ true) where
       step (Some a) e = (a, e)
       step None e =
           let past : get_or graph i [] ≡ [] = sym (unwrap_or-slice_get graph i []) ∙ ap (λ (o : Option (List ℕ)). unwrap_or o []) (slice_get-map node m.assigns i ∙ ap (option_map node) e) in
-          absurd (none_in j (subst (λ (l : List ℕ). Contains l j) past arrow))
+          absurd (nothing (subst (λ (l : List ℕ). Contains l j) past arrow))
 
   -- an arrow from an assign leads to one to a name that it reads
   arrow_reads : (i j : ℕ) (a : Assign) → At i a → HasArrow graph i j → (b : Assign) × At j b × Reads m a.name b.name
@@ -211,16 +203,50 @@ module _ (m : Module) (differ : all_differ (names m.assigns) ≡ true) where
   pub depends_leads : (i : ℕ) (a : Assign) → At i a → DependsOn m a.name a.name → Leads graph i i
   depends_leads i a e d = chain_way d.0 i i a a e e d.1
 
+  arrow_within : (from to : ℕ) → HasArrow graph from to → to < length graph
+  arrow_within from to arrow =
+      let a = source from to arrow in
+      let b = arrow_reads from to a.0 a.1 arrow in
+      let within : to < length m.assigns = slice_get_within m.assigns to b.0 b.1 in
+      omega (arith, within, length-map m.assigns node)
+
   pub is_graph : IsGraph graph
   is_graph = λ k d lt k' d' lt'.
       let arrows = get_or graph k d in
       let inside : Contains arrows (get_or arrows k' d') = Contains-get_or arrows k' d' lt' in
       let same : get_or graph k [] ≡ arrows = get_or_from_slice_get graph k arrows [] (slice_get-get_or graph k d lt) in
-      let arrow : HasArrow graph k (get_or arrows k' d') = subst (λ (l : List ℕ). Contains l (get_or arrows k' d')) (sym same) inside in
-      let a = source k (get_or arrows k' d') arrow in
-      let b = arrow_reads k (get_or arrows k' d') a.0 a.1 arrow in
-      let within : get_or arrows k' d' < length m.assigns = slice_get_within m.assigns (get_or arrows k' d') b.0 b.1 in
-      omega (arith, within, length-map m.assigns node)
+      arrow_within k (get_or arrows k' d') (subst (λ (l : List ℕ). Contains l (get_or arrows k' d')) (sym same) inside)
+
+  depends_or_not : (i : ℕ) (a : Assign) → At i a → Decided (DependsOn m a.name a.name)
+  depends_or_not i a e = elim (leads_or_not graph arrow_within i i) as (λ _. Decided (DependsOn m a.name a.name)) [
+    | inl way ↦ inl (leads_depends i a e way)
+    | inr none ↦ inr (λ d. none (depends_leads i a e d))
+  ]
+
+  -- among the first assigns one is the first whose name depends on itself, or none does
+  abbrev FirstOrNone : ℕ → Type 0
+  FirstOrNone n = ((at : ℕ) × IsFirstCyclic m at) ⊎ ((at : ℕ) (a : Assign) → at < n → At at a → DependsOn m a.name a.name → ⊥)
+
+  first_or_none : (n : ℕ) → n ≤ length m.assigns → FirstOrNone n
+  first_or_none zero most = inr (λ at a less e d. absurd (omega (arith, less)))
+  first_or_none (suc n) most = let here = assign_at m.assigns n (omega (arith, most)) in step here.0 here.1 (first_or_none n (omega (arith, most))) (depends_or_not n here.0 here.1)
+    where
+      step : (a : Assign) → At n a → FirstOrNone n → Decided (DependsOn m a.name a.name) → FirstOrNone (suc n)
+      step a e (inl found) told = inl found
+      step a e (inr before) (inl d) = inl (n, record { assign = a; stands = e; cyclic = d; first = λ earlier other less there. before earlier other less there })
+      step a e (inr before) (inr never) = inr (λ at b less there d. elim (cases_lt at n) [
+        | inl l ↦ before at b l there d
+        | inr past ↦ (let here : n ≡ at = omega (arith, less, past) in
+            let same : a ≡ b = same_Some a b (sym e ∙ (ap (slice_get m.assigns) here ∙ there)) in
+            never (subst (λ (x : Assign). DependsOn m x.name x.name) (sym same) d))
+      ])
+
+  -- there is a first assign whose name depends on itself, or there is none
+  pub cyclic_or_not : ((at : ℕ) × IsFirstCyclic m at) ⊎ IsAcyclic m
+  cyclic_or_not = elim (first_or_none (length m.assigns) (omega arith)) as (λ _. ((at : ℕ) × IsFirstCyclic m at) ⊎ IsAcyclic m) [
+    | inl found ↦ inl found
+    | inr none ↦ inr (λ at a e. none at a (slice_get_within m.assigns at a e) e)
+  ]
 
   -- the first mark tells the first assign whose name depends on itself
   module _ (marks : List Bool) (count : length marks ≡ length graph) (cyclic : (k : ℕ) → k < length graph → IsTrue (get_or marks k false) ↔ Leads graph k k) where

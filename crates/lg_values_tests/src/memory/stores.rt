@@ -30,39 +30,60 @@ fn starts_as(alloc: Global, form: &StateForm, wanted: &[Word]) -> bool
 }
 
 #[test]
-fn each_form_starts_with_zeros(rt: HostRuntime) {
-    let trigger = Trigger::Rising;
+fn a_flip_flop_starts_with_zero(rt: HostRuntime) {
     let kind = FlipKind::D;
-    let flip = StateForm::Flip { kind, trigger };
-    assert!(rt; starts_as(rt.alloc(), &flip, &[one(Zero)]));
-    let register = StateForm::Register { width: 8, trigger };
-    assert!(rt; starts_as(rt.alloc(), &register, &[byte(0)]));
-    let counter = StateForm::Counter {
+    let trigger = Trigger::Rising;
+    let form = StateForm::Flip { kind, trigger };
+    assert!(rt; starts_as(rt.alloc(), &form, &[one(Zero)]));
+}
+
+#[test]
+fn a_register_starts_with_zeros(rt: HostRuntime) {
+    let trigger = Trigger::Rising;
+    let form = StateForm::Register { width: 8, trigger };
+    assert!(rt; starts_as(rt.alloc(), &form, &[byte(0)]));
+}
+
+#[test]
+fn a_counter_starts_with_zeros(rt: HostRuntime) {
+    let form = StateForm::Counter {
         width: 8,
         max: 9,
         goal: Goal::Wrap,
-        trigger,
+        trigger: Trigger::Rising,
     };
-    assert!(rt; starts_as(rt.alloc(), &counter, &[byte(0)]));
-    let shift = StateForm::Shift {
+    assert!(rt; starts_as(rt.alloc(), &form, &[byte(0)]));
+}
+
+#[test]
+fn each_stage_of_a_shift_register_starts_with_zeros(rt: HostRuntime) {
+    let form = StateForm::Shift {
         width: 1,
         length: 3,
         parallel: false,
-        trigger,
+        trigger: Trigger::Rising,
     };
-    assert!(rt; starts_as(rt.alloc(), &shift, &[one(Zero), one(Zero), one(Zero)]));
-    let rom = StateForm::Rom {
+    assert!(rt; starts_as(rt.alloc(), &form, &[one(Zero), one(Zero), one(Zero)]));
+}
+
+#[test]
+fn a_rom_starts_with_no_word(rt: HostRuntime) {
+    let form = StateForm::Rom {
         address: 1,
         width: 8,
         words: Items::new(rt.alloc()),
     };
-    assert!(rt; starts_as(rt.alloc(), &rom, &[]));
-    let ram = StateForm::Ram {
+    assert!(rt; starts_as(rt.alloc(), &form, &[]));
+}
+
+#[test]
+fn each_word_of_a_ram_starts_with_zeros(rt: HostRuntime) {
+    let form = StateForm::Ram {
         address: 1,
         width: 8,
-        trigger,
+        trigger: Trigger::Rising,
     };
-    assert!(rt; starts_as(rt.alloc(), &ram, &[byte(0), byte(0)]));
+    assert!(rt; starts_as(rt.alloc(), &form, &[byte(0), byte(0)]));
 }
 
 // So many steps from some inputs to others and back.
