@@ -17,14 +17,23 @@ fn byte(n: u64) -> Word
     Word::from_number(8, n)
 }
 
-// Whether the state at the start holds just these words.
-fn starts_as(alloc: Global, form: &StateForm, wanted: &[Word]) -> bool
+fn has(state: &State, index: usize, wanted: &Word) -> bool {
+    match state {
+        State::None => false,
+        State::One(word) => index == 0 && word == wanted,
+        State::Many(words) => match words.get(index) {
+            Some(word) => word == wanted,
+            None => false,
+        },
+    }
+}
+
+// Whether a part starts with so many words, all of them this one.
+fn starts_with(alloc: Global, form: &StateForm, count: usize, word: &Word) -> bool
     requires { IsForm form.now }
 {
     match start(alloc, form) {
-        Ok(State::None) => wanted.is_empty(),
-        Ok(State::One(word)) => wanted == [word].as_slice(),
-        Ok(State::Many(words)) => words.as_slice() == wanted,
+        Ok(state) => (0..count).all(|index| has(&state, index, word)) && !has(&state, count, word),
         Err(_) => false,
     }
 }
@@ -34,14 +43,14 @@ fn a_flip_flop_starts_with_zero(rt: HostRuntime) {
     let kind = FlipKind::D;
     let trigger = Trigger::Rising;
     let form = StateForm::Flip { kind, trigger };
-    assert!(rt; starts_as(rt.alloc(), &form, &[one(Zero)]));
+    assert!(rt; starts_with(rt.alloc(), &form, 1, &one(Zero)));
 }
 
 #[test]
 fn a_register_starts_with_zeros(rt: HostRuntime) {
     let trigger = Trigger::Rising;
     let form = StateForm::Register { width: 8, trigger };
-    assert!(rt; starts_as(rt.alloc(), &form, &[byte(0)]));
+    assert!(rt; starts_with(rt.alloc(), &form, 1, &byte(0)));
 }
 
 #[test]
@@ -52,7 +61,7 @@ fn a_counter_starts_with_zeros(rt: HostRuntime) {
         goal: Goal::Wrap,
         trigger: Trigger::Rising,
     };
-    assert!(rt; starts_as(rt.alloc(), &form, &[byte(0)]));
+    assert!(rt; starts_with(rt.alloc(), &form, 1, &byte(0)));
 }
 
 #[test]
@@ -63,7 +72,7 @@ fn each_stage_of_a_shift_register_starts_with_zeros(rt: HostRuntime) {
         parallel: false,
         trigger: Trigger::Rising,
     };
-    assert!(rt; starts_as(rt.alloc(), &form, &[one(Zero), one(Zero), one(Zero)]));
+    assert!(rt; starts_with(rt.alloc(), &form, 3, &one(Zero)));
 }
 
 #[test]
@@ -73,7 +82,7 @@ fn a_rom_starts_with_no_word(rt: HostRuntime) {
         width: 8,
         words: Items::new(rt.alloc()),
     };
-    assert!(rt; starts_as(rt.alloc(), &form, &[]));
+    assert!(rt; starts_with(rt.alloc(), &form, 0, &byte(0)));
 }
 
 #[test]
@@ -83,7 +92,7 @@ fn each_word_of_a_ram_starts_with_zeros(rt: HostRuntime) {
         width: 8,
         trigger: Trigger::Rising,
     };
-    assert!(rt; starts_as(rt.alloc(), &form, &[byte(0), byte(0)]));
+    assert!(rt; starts_with(rt.alloc(), &form, 2, &byte(0)));
 }
 
 // So many steps from some inputs to others and back.
