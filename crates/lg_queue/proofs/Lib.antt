@@ -1,0 +1,7 @@
+pub mod BucketLemmas
+pub mod ItemLemmas
+pub mod LevelLemmas
+pub mod NumberLemmas
+pub mod NumberingLemmas
+pub mod OrderLemmas
+pub mod RowLemmas
