@@ -1,11 +1,11 @@
 -- Buckets and the items that they stand for.
-use Rattle.std.proofs.Common.{◌≡◌, ◌≢◌, ℕ, zero, suc, ◌+◌, ◌-◌, ◌<◌, ◌≤◌, ◌^◌, Bool, true, ltb, List, [], ◌∷◌, ◌++◌, map, length, get_or, set, take, drop, sum, refl, sym, ap, ◌∙◌, subst, arith, ◌⊎◌, inl, inr, length-set, length-append, length-take-le, length-drop}
+use Rattle.std.proofs.Common.{◌≡◌, ◌≢◌, ℕ, zero, suc, ◌+◌, ◌<◌, ◌≤◌, ◌^◌, ltb, List, [], ◌∷◌, ◌++◌, map, length, set, take, drop, sum, refl, sym, ap, ◌∙◌, subst, arith, inl, inr, length-take-le}
 use Rattle.std.specs.List.{All}
-use Rattle.std.specs.Prelude.{Option, Some, None}
+use Rattle.std.specs.Prelude.{Some}
 use Rattle.std.proofs.lemmas.Bool.{cases_lt, cases_eq}
 use Rattle.std.proofs.lemmas.Bool.Decides.{Decides-ltb}
-use Rattle.std.proofs.lemmas.List.{get_or-set_same, get_or-set_other, get_or-take, get_or-drop, get_or_append_left, get_or-append_right, drop_more, get_or_past, drop_all, nil_from_length}
-use Rattle.std.proofs.lemmas.List.Elements.{All-append, All-take, All-drop, All-set, All-get_or}
+use Rattle.std.proofs.lemmas.List.{get_or-set_same, get_or-set_other, get_or-take, drop_more, get_or_past}
+use Rattle.std.proofs.lemmas.List.Elements.{All-set}
 use Rattle.lg_queue.specs.NumberSet.{NumberSet, with_number}
 use Rattle.lg_queue.specs.Numbering.{IsOutput, number_of, place_of}
 use Rattle.lg_queue.specs.Order.{StandsIn, IsRising, with_value}
@@ -13,7 +13,7 @@ use Rattle.lg_queue.specs.Pending.{Item, is_before, first_instant}
 use Rattle.lg_queue.specs.Buckets.{item_at, items_from, no_bucket, bucket_at, IsBucket, IsFirstBusy, AreIdle}
 use Rattle.lg_queue.proofs.OrderLemmas.{stands_left, stands_right, stands_cases, stands_in_map, map_stands, rising_append, rising_map, same_rising, stands_in_with, with_stands, with_stands_itself, with_rising, order_of_numbers}
 use Rattle.lg_queue.proofs.ItemLemmas.{Decides-is_before, order_of_items}
-use Rattle.lg_queue.proofs.NumberingLemmas.{place_of-number_of, number_of-below, place_of-output, places_rise}
+use Rattle.lg_queue.proofs.NumberingLemmas.{place_of-number_of, number_of-below, places_rise}
 
 none_at_no_bucket : (number : ℕ) → StandsIn number no_bucket.numbers → ⊥
 unfolding no_bucket
@@ -29,13 +29,13 @@ pub record IsHeld (outputs : List ℕ) (instant : ℕ) (buckets : List NumberSet
 pub held : (outputs : List ℕ) (instant : ℕ) (buckets : List NumberSet) (item : Item) → StandsIn item (items_from outputs instant buckets) → IsHeld outputs instant buckets item
 held outputs instant [] item h = absurd h
 held outputs instant (bucket ∷ buckets) item h = elim (stands_cases item (map (item_at outputs instant) bucket.numbers) (items_from outputs (instant + 1) buckets) h) [
-      inl s ↦ let k = stands_in_map (item_at outputs instant) item bucket.numbers s in
-          let same : instant ≡ instant + 0 = omega arith in
-          record { ahead = 0; number = k.0; there = k.1; is = k.2 ∙ ap (λ i. item_at outputs i k.0) same }
-    | inr s ↦ let k = held outputs (instant + 1) buckets item s in
-          let same : instant + 1 + k.ahead ≡ instant + suc k.ahead = omega arith in
-          record { ahead = suc k.ahead; number = k.number; there = k.there; is = k.is ∙ ap (λ i. item_at outputs i k.number) same }
-    ]
+  | inl s ↦ let k = stands_in_map (item_at outputs instant) item bucket.numbers s in
+      let same : instant ≡ instant + 0 = omega arith in
+      record { ahead = 0; number = k.0; there = k.1; is = k.2 ∙ ap (λ i. item_at outputs i k.0) same }
+  | inr s ↦ let k = held outputs (instant + 1) buckets item s in
+      let same : instant + 1 + k.ahead ≡ instant + suc k.ahead = omega arith in
+      record { ahead = suc k.ahead; number = k.number; there = k.there; is = k.is ∙ ap (λ i. item_at outputs i k.number) same }
+]
 
 pub holds : (outputs : List ℕ) (instant : ℕ) (buckets : List NumberSet) (ahead number : ℕ) → StandsIn number (bucket_at buckets ahead).numbers
     → StandsIn (item_at outputs (instant + ahead) number) (items_from outputs instant buckets)
@@ -52,9 +52,9 @@ holds outputs instant (bucket ∷ buckets) (suc ahead) number h =
 -- a bucket with a number lies within
 pub busy_within : (buckets : List NumberSet) (ahead number : ℕ) → StandsIn number (bucket_at buckets ahead).numbers → ahead < length buckets
 busy_within buckets ahead number h = elim (cases_lt ahead (length buckets)) [
-      inl inside ↦ inside
-    | inr past ↦ absurd (none_at_no_bucket number (subst (λ (b : NumberSet). StandsIn number b.numbers) (get_or_past buckets ahead no_bucket past) h))
-    ]
+  | inl inside ↦ inside
+  | inr past ↦ absurd (none_at_no_bucket number (subst (λ (b : NumberSet). StandsIn number b.numbers) (get_or_past buckets ahead no_bucket past) h))
+]
 
 bucket_from : (outputs : List ℕ) (buckets : List NumberSet) → All (IsBucket outputs) buckets → (ahead number : ℕ) → StandsIn number (bucket_at buckets ahead).numbers → IsBucket outputs (bucket_at buckets ahead)
 bucket_from outputs buckets each ahead number h = each ahead no_bucket (busy_within buckets ahead number h)
@@ -64,7 +64,7 @@ rising_bucket : (outputs : List ℕ) (instant : ℕ) (bucket : NumberSet) → Is
 rising_bucket outputs instant bucket is =
     rising_map ltb is_before (item_at outputs instant) bucket.numbers is.rising
     (λ x y s t before. (Decides-is_before (item_at outputs instant x) (item_at outputs instant y)).1
-        (inr (refl, places_rise outputs x y ((Decides-ltb x y).0 before) (is.each y t).0)))
+    (inr (refl, places_rise outputs x y ((Decides-ltb x y).0 before) (is.each y t).0)))
 
 All-rest : (outputs : List ℕ) (bucket : NumberSet) (buckets : List NumberSet) → All (IsBucket outputs) (bucket ∷ buckets) → All (IsBucket outputs) buckets
 All-rest outputs bucket buckets each k d h = each (suc k) d (omega (arith, h))
@@ -77,20 +77,20 @@ rising_items outputs instant (bucket ∷ buckets) each =
     (rising_bucket outputs instant bucket (each 0 no_bucket (omega arith)))
     (rising_items outputs (instant + 1) buckets (All-rest outputs bucket buckets each))
     (λ x y s t.
-        let k = stands_in_map (item_at outputs instant) x bucket.numbers s in
-        let later = held outputs (instant + 1) buckets y t in
-        let first : x.0 ≡ instant = ap (λ (i : Item). i.0) k.2 in
-        let second : y.0 ≡ instant + 1 + later.ahead = ap (λ (i : Item). i.0) later.is in
-        (Decides-is_before x y).1 (inl (omega (arith, first, second))))
+    let k = stands_in_map (item_at outputs instant) x bucket.numbers s in
+    let later = held outputs (instant + 1) buckets y t in
+    let first : x.0 ≡ instant = ap (λ (i : Item). i.0) k.2 in
+    let second : y.0 ≡ instant + 1 + later.ahead = ap (λ (i : Item). i.0) later.is in
+    (Decides-is_before x y).1 (inl (omega (arith, first, second))))
 
 -- a bucket with a number more
 pub bucket_with : (outputs : List ℕ) (number : ℕ) (bucket : NumberSet) → IsBucket outputs bucket → number < sum outputs → (place_of outputs number).0 < 2 ^ 32 → IsBucket outputs (with_number number bucket)
 bucket_with outputs number bucket is inside fits = record {
   rising = with_rising ltb order_of_numbers number bucket.numbers is.rising;
   each = λ other s. elim (stands_in_with ltb number bucket.numbers other s) [
-      inl same ↦ subst (λ n. (n < sum outputs) × ((place_of outputs n).0 < 2 ^ 32)) (sym same) (inside, fits)
+    | inl same ↦ subst (λ n. (n < sum outputs) × ((place_of outputs n).0 < 2 ^ 32)) (sym same) (inside, fits)
     | inr t ↦ is.each other t
-    ];
+  ];
   room = is.room;
 }
 
@@ -105,18 +105,18 @@ into outputs instant buckets ahead number z k inside =
     let item = item_at outputs (instant + ahead) number in
     let items = items_from outputs instant buckets in
     elim (cases_eq k.ahead ahead) [
-      inl same ↦
-        let found : bucket_at (set buckets ahead bucket) k.ahead ≡ bucket = ap (bucket_at (set buckets ahead bucket)) same ∙ get_or-set_same buckets ahead bucket no_bucket inside in
-        let here : StandsIn k.number bucket.numbers = subst (λ (b : NumberSet). StandsIn k.number b.numbers) found k.there in
-        let at : z ≡ item_at outputs (instant + ahead) k.number = k.is ∙ ap (λ a. item_at outputs (instant + a) k.number) same in
-        elim (stands_in_with ltb number (bucket_at buckets ahead).numbers k.number here) [
-          inl e ↦ subst (λ i. StandsIn i (with_value is_before item items)) (sym (at ∙ ap (item_at outputs (instant + ahead)) e)) (with_stands_itself is_before order_of_items item items)
-        | inr t ↦ with_stands is_before item items z (subst (λ i. StandsIn i items) (sym at) (holds outputs instant buckets ahead k.number t))
-        ]
-    | inr differ ↦
-        let found : bucket_at (set buckets ahead bucket) k.ahead ≡ bucket_at buckets k.ahead = get_or-set_other buckets ahead k.ahead bucket no_bucket differ in
-        with_stands is_before item items z (subst (λ i. StandsIn i items) (sym k.is)
-            (holds outputs instant buckets k.ahead k.number (subst (λ (b : NumberSet). StandsIn k.number b.numbers) found k.there)))
+      | inl same ↦
+          let found : bucket_at (set buckets ahead bucket) k.ahead ≡ bucket = ap (bucket_at (set buckets ahead bucket)) same ∙ get_or-set_same buckets ahead bucket no_bucket inside in
+          let here : StandsIn k.number bucket.numbers = subst (λ (b : NumberSet). StandsIn k.number b.numbers) found k.there in
+          let at : z ≡ item_at outputs (instant + ahead) k.number = k.is ∙ ap (λ a. item_at outputs (instant + a) k.number) same in
+          elim (stands_in_with ltb number (bucket_at buckets ahead).numbers k.number here) [
+            | inl e ↦ subst (λ i. StandsIn i (with_value is_before item items)) (sym (at ∙ ap (item_at outputs (instant + ahead)) e)) (with_stands_itself is_before order_of_items item items)
+            | inr t ↦ with_stands is_before item items z (subst (λ i. StandsIn i items) (sym at) (holds outputs instant buckets ahead k.number t))
+          ]
+      | inr differ ↦
+          let found : bucket_at (set buckets ahead bucket) k.ahead ≡ bucket_at buckets k.ahead = get_or-set_other buckets ahead k.ahead bucket no_bucket differ in
+          with_stands is_before item items z (subst (λ i. StandsIn i items) (sym k.is)
+          (holds outputs instant buckets k.ahead k.number (subst (λ (b : NumberSet). StandsIn k.number b.numbers) found k.there)))
     ]
 
 -- what was held is held with a number more
@@ -126,18 +126,18 @@ back outputs instant buckets ahead number z k inside =
     let bucket = with_number number (bucket_at buckets ahead) in
     let now = set buckets ahead bucket in
     let there : StandsIn k.number (bucket_at now k.ahead).numbers = elim (cases_eq k.ahead ahead) [
-          inl same ↦
-            let found : bucket_at now k.ahead ≡ bucket = ap (bucket_at now) same ∙ get_or-set_same buckets ahead bucket no_bucket inside in
-            let old : StandsIn k.number (bucket_at buckets ahead).numbers = subst (λ a. StandsIn k.number (bucket_at buckets a).numbers) same k.there in
-            subst (λ (b : NumberSet). StandsIn k.number b.numbers) (sym found) (with_stands ltb number (bucket_at buckets ahead).numbers k.number old)
-        | inr differ ↦ subst (λ (b : NumberSet). StandsIn k.number b.numbers) (sym (get_or-set_other buckets ahead k.ahead bucket no_bucket differ)) k.there
-        ] in
+      | inl same ↦
+          let found : bucket_at now k.ahead ≡ bucket = ap (bucket_at now) same ∙ get_or-set_same buckets ahead bucket no_bucket inside in
+          let old : StandsIn k.number (bucket_at buckets ahead).numbers = subst (λ a. StandsIn k.number (bucket_at buckets a).numbers) same k.there in
+          subst (λ (b : NumberSet). StandsIn k.number b.numbers) (sym found) (with_stands ltb number (bucket_at buckets ahead).numbers k.number old)
+      | inr differ ↦ subst (λ (b : NumberSet). StandsIn k.number b.numbers) (sym (get_or-set_other buckets ahead k.ahead bucket no_bucket differ)) k.there
+    ] in
     subst (λ i. StandsIn i (items_from outputs instant now)) (sym k.is) (holds outputs instant now k.ahead k.number there)
 
 -- a number that comes into a bucket is one item more
 pub items_with : (outputs : List ℕ) (instant : ℕ) (buckets : List NumberSet) (ahead part output : ℕ) → All (IsBucket outputs) buckets → ahead < length buckets → IsOutput outputs part output → part < 2 ^ 32
     → items_from outputs instant (set buckets ahead (with_number (number_of outputs part output) (bucket_at buckets ahead)))
-        ≡ with_value is_before (instant + ahead, part, output) (items_from outputs instant buckets)
+    ≡ with_value is_before (instant + ahead, part, output) (items_from outputs instant buckets)
 items_with outputs instant buckets ahead part output each inside there fits =
     let number = number_of outputs part output in
     let place : place_of outputs number ≡ (part, output) = place_of-number_of outputs part output there in
@@ -150,14 +150,14 @@ items_with outputs instant buckets ahead part output each inside there fits =
     let each' : All (IsBucket outputs) now = All-set (IsBucket outputs) buckets ahead bucket (bucket_with outputs number (bucket_at buckets ahead) (each ahead no_bucket inside) (number_of-below outputs part output there) fits') each in
     subst (λ i. items_from outputs instant now ≡ with_value is_before i (items_from outputs instant buckets)) named
     (same_rising is_before order_of_items (items_from outputs instant now) (with_value is_before item (items_from outputs instant buckets))
-        (rising_items outputs instant now each')
-        (with_rising is_before order_of_items item (items_from outputs instant buckets) (rising_items outputs instant buckets each))
-        (λ z s. let k = held outputs instant now z s in into outputs instant buckets ahead number z k inside)
-        (λ z s. elim (stands_in_with is_before item (items_from outputs instant buckets) z s) [
-              inl same ↦ subst (λ i. StandsIn i (items_from outputs instant now)) (sym same)
-                  (holds outputs instant now ahead number (subst (λ (b : NumberSet). StandsIn number b.numbers) (sym itself) (with_stands_itself ltb order_of_numbers number (bucket_at buckets ahead).numbers)))
-            | inr t ↦ let k = held outputs instant buckets z t in back outputs instant buckets ahead number z k inside
-            ]))
+    (rising_items outputs instant now each')
+    (with_rising is_before order_of_items item (items_from outputs instant buckets) (rising_items outputs instant buckets each))
+    (λ z s. let k = held outputs instant now z s in into outputs instant buckets ahead number z k inside)
+    (λ z s. elim (stands_in_with is_before item (items_from outputs instant buckets) z s) [
+      | inl same ↦ subst (λ i. StandsIn i (items_from outputs instant now)) (sym same)
+          (holds outputs instant now ahead number (subst (λ (b : NumberSet). StandsIn number b.numbers) (sym itself) (with_stands_itself ltb order_of_numbers number (bucket_at buckets ahead).numbers)))
+      | inr t ↦ let k = held outputs instant buckets z t in back outputs instant buckets ahead number z k inside
+    ]))
 
 -- idle buckets in front stand for nothing
 pub items_skip : (outputs : List ℕ) (instant : ℕ) (buckets : List NumberSet) (ahead : ℕ) → ((earlier : ℕ) → earlier < ahead → (bucket_at buckets earlier).numbers ≡ []) → ahead ≤ length buckets

@@ -4,4 +4,5 @@ pub mod LevelLemmas
 pub mod NumberLemmas
 pub mod NumberingLemmas
 pub mod OrderLemmas
+pub mod QueueLemmas
 pub mod RowLemmas

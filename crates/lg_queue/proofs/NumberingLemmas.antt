@@ -1,7 +1,7 @@
 -- Numbers of outputs, and the places that they stand for.
-use Rattle.std.proofs.Common.{◌≡◌, ℕ, zero, suc, ◌+◌, ◌-◌, ◌<◌, ◌≤◌, Bool, true, false, cond, ltb, List, [], ◌∷◌, ◌++◌, length, get_or, take, sum, refl, sym, ap, ◌∙◌, subst, arith, ◌⊎◌, inl, inr}
-use Rattle.std.proofs.lemmas.Bool.{cases_lt, cases_eq, lt-ltb, le-ltb}
-use Rattle.std.proofs.lemmas.List.Sums.{sum_by-cons, sum_by_more, sum_by_more_le, sum_by-take-le}
+use Rattle.std.proofs.Common.{◌≡◌, ℕ, zero, suc, ◌+◌, ◌-◌, ◌<◌, ◌≤◌, List, [], ◌∷◌, ◌++◌, length, take, sum, refl, sym, ap, ◌∙◌, subst, arith, ◌⊎◌, inl, inr}
+use Rattle.std.proofs.lemmas.Bool.{cases_lt, lt-ltb, le-ltb}
+use Rattle.std.proofs.lemmas.List.Sums.{sum_by-cons}
 use Rattle.std.proofs.lemmas.List.{length_push, get_or_append_left, get_or_push}
 use Rattle.lg_queue.specs.Numbering.{IsOutput, number_of, next_part, place_of, ArePlaces}
 
@@ -42,10 +42,10 @@ number_of-below (count ∷ counts) (suc part) output h =
 pub place_of-output : (outputs : List ℕ) (n : ℕ) → n < sum outputs → IsOutput outputs (place_of outputs n).0 (place_of outputs n).1
 place_of-output [] n h = absurd (omega (arith, h))
 place_of-output (count ∷ counts) n h = elim (cases_lt n count) [
-      inl first ↦ subst (λ (p : ℕ × ℕ). IsOutput (count ∷ counts) p.0 p.1) (sym (place_first count n counts first)) (omega arith, first)
-    | inr later ↦ subst (λ (p : ℕ × ℕ). IsOutput (count ∷ counts) p.0 p.1) (sym (place_later count n counts later))
-        (let k = place_of-output counts (n - count) (omega (arith, h, later, sum-cons count counts)) in (omega (arith, k.0), k.1))
-    ]
+  | inl first ↦ subst (λ (p : ℕ × ℕ). IsOutput (count ∷ counts) p.0 p.1) (sym (place_first count n counts first)) (omega arith, first)
+  | inr later ↦ subst (λ (p : ℕ × ℕ). IsOutput (count ∷ counts) p.0 p.1) (sym (place_later count n counts later))
+      (let k = place_of-output counts (n - count) (omega (arith, h, later, sum-cons count counts)) in (omega (arith, k.0), k.1))
+]
 
 -- one place stands before another
 abbrev pub ComesBefore : ℕ × ℕ → ℕ × ℕ → Type 0
@@ -55,17 +55,17 @@ ComesBefore p q = (p.0 < q.0) ⊎ ((p.0 ≡ q.0) × (p.1 < q.1))
 pub places_rise : (outputs : List ℕ) (m n : ℕ) → m < n → n < sum outputs → ComesBefore (place_of outputs m) (place_of outputs n)
 places_rise [] m n h k = absurd (omega (arith, k))
 places_rise (count ∷ counts) m n h k = elim (cases_lt n count) [
-      inl second ↦ subst (λ (p : ℕ × ℕ). ComesBefore p (place_of (count ∷ counts) n)) (sym (place_first count m counts (omega (arith, h, second))))
-          (subst (λ (q : ℕ × ℕ). ComesBefore (0, m) q) (sym (place_first count n counts second)) (inr (refl, h)))
-    | inr later ↦ subst (λ (q : ℕ × ℕ). ComesBefore (place_of (count ∷ counts) m) q) (sym (place_later count n counts later)) (elim (cases_lt m count) [
-          inl first ↦ subst (λ (p : ℕ × ℕ). ComesBefore p (next_part (place_of counts (n - count)))) (sym (place_first count m counts first)) (inl (omega arith))
-        | inr both ↦ subst (λ (p : ℕ × ℕ). ComesBefore p (next_part (place_of counts (n - count)))) (sym (place_later count m counts both))
-            (elim (places_rise counts (m - count) (n - count) (omega (arith, h, both)) (omega (arith, k, later, sum-cons count counts))) [
-                  inl l ↦ inl (omega (arith, l))
-                | inr e ↦ inr (ap suc e.0, e.1)
-                ])
+  | inl second ↦ subst (λ (p : ℕ × ℕ). ComesBefore p (place_of (count ∷ counts) n)) (sym (place_first count m counts (omega (arith, h, second))))
+      (subst (λ (q : ℕ × ℕ). ComesBefore (0, m) q) (sym (place_first count n counts second)) (inr (refl, h)))
+  | inr later ↦ subst (λ (q : ℕ × ℕ). ComesBefore (place_of (count ∷ counts) m) q) (sym (place_later count n counts later)) (elim (cases_lt m count) [
+    | inl first ↦ subst (λ (p : ℕ × ℕ). ComesBefore p (next_part (place_of counts (n - count)))) (sym (place_first count m counts first)) (inl (omega arith))
+    | inr both ↦ subst (λ (p : ℕ × ℕ). ComesBefore p (next_part (place_of counts (n - count)))) (sym (place_later count m counts both))
+        (elim (places_rise counts (m - count) (n - count) (omega (arith, h, both)) (omega (arith, k, later, sum-cons count counts))) [
+          | inl l ↦ inl (omega (arith, l))
+          | inr e ↦ inr (ap suc e.0, e.1)
         ])
-    ]
+  ])
+]
 
 -- one place more
 pub places_more : (counts : List ℕ) (part output : ℕ) (places : List (ℕ × ℕ)) → ArePlaces counts part output places → IsOutput counts part output
@@ -76,10 +76,10 @@ places_more counts part output places now there =
     record {
       all = omega (arith, long, now.all);
       each = λ n inside. elim (cases_lt n (length places)) [
-          inl before ↦ get_or_append_left places ((part, output) ∷ []) (0, 0) n before ∙ now.each n before
+        | inl before ↦ get_or_append_left places ((part, output) ∷ []) (0, 0) n before ∙ now.each n before
         | inr last ↦
             let is : n ≡ length places = omega (arith, inside, last, long) in
             let at : n ≡ number_of counts part output = is ∙ now.all in
             get_or_push places (part, output) (0, 0) n (sym is) ∙ sym (place_of-number_of counts part output there) ∙ ap (place_of counts) (sym at)
-        ];
+      ];
     }

@@ -37,3 +37,12 @@ pub record IsFirstBusy (buckets : List NumberSet) (ahead : ℕ) : Type 0 where
 -- no bucket has a number
 abbrev pub AreIdle : List NumberSet → Type 0
 AreIdle buckets = (ahead : ℕ) → ahead < length buckets → (bucket_at buckets ahead).numbers ≡ []
+
+-- no bucket of an instant past the last u64 has a number
+abbrev pub AreInRange : ℕ → List NumberSet → Type 0
+AreInRange instant buckets = (ahead : ℕ) → ahead < length buckets → (bucket_at buckets ahead).numbers ≢ [] → instant + ahead < 2 ^ 64
+
+-- a bucket that has nothing, and room for all outputs
+pub record IsEmptyBucket (outputs : List ℕ) (bucket : NumberSet) : Type 0 where
+  pub none : bucket.numbers ≡ []
+  pub room : sum outputs ≤ bucket.room

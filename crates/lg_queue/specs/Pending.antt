@@ -1,6 +1,6 @@
 -- Pending changes of outputs, in the order in which a simulator takes them.
 -- Source: IEEE 1364-2005, 11.4 (the event queue of a simulation, by time).
-use Rattle.std.specs.Prelude.{◌≡◌, ℕ, ◌+◌, ◌<◌, ◌≤◌, ◌^◌, ◌==◌, nat_lt, Bool, ◌&&◌, ◌||◌, List, [], ◌∷◌, Option, Some, None}
+use Rattle.std.specs.Prelude.{◌≡◌, ℕ, ◌+◌, ◌≤◌, ◌==◌, nat_lt, Bool, ◌&&◌, ◌||◌, List, [], ◌∷◌, Option, Some, None}
 use Rattle.lg_queue.specs.Order.{StandsIn, IsRising, with_value}
 use Rattle.lg_queue.specs.Numbering.{IsOutput}
 

@@ -44,8 +44,9 @@ impl Queue {
         ensures { IfOk result (λ queue. queue ≡ record { current = 0; span = span; outputs = outputs.now; items = [] }) }
     {
         let outputs = Outputs::new(alloc, outputs)?;
-        let mut buckets = VecDeque::with_capacity(alloc, span as usize + 1)?;
-        for _ in 0..=span {
+        let circle = span as usize + 1;
+        let mut buckets = VecDeque::with_capacity(alloc, circle)?;
+        for _ in 0..circle {
             buckets.push_back(Numbers::new(alloc, outputs.total())?)?;
         }
         Ok(Queue {
@@ -100,7 +101,7 @@ impl Queue {
         requires { instant + self.old.span < 2 ^ 64 }
         ensures { self.new ≡ nothing_at instant self.old }
     {
-        while self.take_first().is_some() {}
+        while let Some(_) = self.take_first() {}
         self.instant = instant;
     }
 }

@@ -1,4 +1,4 @@
-use Rattle.std.proofs.Common.{◌≡◌, ◌<◌, ◌≤◌, sum, ℕ, ◌+◌, length}
+use Rattle.std.proofs.Common.{◌+◌}
 use Rattle.lg_queue.specs.Numbering.{AreFirsts, ArePlaces}
 use Rattle.lg_queue.proofs.outputs.Outputs.new.Given as goal
 
