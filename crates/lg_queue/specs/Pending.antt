@@ -37,7 +37,7 @@ first_instant (item ∷ items) = Some item.0
 -- the first item is taken, and its instant becomes the current one; where there is none, all stays
 abbrev pub IsTaken : Pending → Option Item → Pending → Type 0
 IsTaken old None new = (old.items ≡ []) × (new ≡ old)
-IsTaken old (Some item) new = (old.items ≡ item ∷ new.items) × (new.current ≡ item.0) × (new.span ≡ old.span) × (new.outputs ≡ old.outputs)
+IsTaken old (Some item) new = (old.items ≡ item ∷ new.items) × (new.current ≡ item.0)
 
 -- nothing is pending
 abbrev pub nothing_at : ℕ → Pending → Pending

@@ -86,7 +86,9 @@ impl Queue {
 
     /// Takes the first item out, and stands at its instant from then on. `None`: there is no item.
     pub fn take_first(&mut self) -> Option<(u64, u32, u32)>
-        ensures { IsTaken self.old result self.new }
+        ensures item { IsTaken self.old result self.new }
+        ensures outputs { self.new.outputs ≡ self.old.outputs }
+        ensures span { self.new.span ≡ self.old.span }
     {
         let ahead = first_busy(&self.buckets)?;
         self.instant += ahead as u64;
