@@ -6,6 +6,8 @@ mod graph;
 #[cfg(test)]
 mod io;
 #[cfg(test)]
+mod queue;
+#[cfg(test)]
 mod text;
 #[cfg(test)]
 mod timing;
