@@ -5,3 +5,8 @@ mod KindLemmas
 mod CellLemmas
 mod FormLemmas
 mod TableLemmas
+mod SameRecords
+mod RowsReached
+mod SomeRecords
+pub mod OneTable
+pub mod SomeTable
