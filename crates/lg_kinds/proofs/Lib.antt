@@ -1,10 +1,11 @@
 mod LastLemmas
 mod IndexLemmas
 mod LatestLemmas
-mod KindLemmas
+pub mod KindLemmas
 mod CellLemmas
 mod FormLemmas
 mod TableLemmas
+mod NearLemmas
 mod SameRecords
 mod RowsReached
 mod SomeRecords
