@@ -16,11 +16,11 @@ use Rattle.lg_kinds.specs.Table.{name_of}
 use Rattle.lg_kinds.specs.TableFile.{HasForm, IsOffset, has_port}
 
 -- the field at a place
-abbrev cell : ℕ → List (List ℕ) → List ℕ
+abbrev pub cell : ℕ → List (List ℕ) → List ℕ
 cell i fields = get_or fields i []
 
 -- two words of a record differ
-differ : (v w word : List ℕ) → bytes_eq v w ≡ false → word ≡ v → word ≡ w → ⊥
+pub differ : (v w word : List ℕ) → bytes_eq v w ≡ false → word ≡ v → word ≡ w → ⊥
 differ v w word other e f = false≢true (sym other ∙ (bytes_eq-Decides v w).1 (sym e ∙ f))
 
 -- a record for a sheet says two offsets

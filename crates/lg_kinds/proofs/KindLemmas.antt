@@ -72,6 +72,11 @@ each_found Text = refl
 each_found HexDisplay = refl
 each_found SegmentDisplay = refl
 
+-- names of kinds differ
+pub kind_named_same : (a b : Kind) → name_of a ≡ name_of b → a ≡ b
+kind_named_same a b e =
+    same_kind a b (sym (each_found a) ∙ (ap (λ (name : List ℕ). find (λ k. bytes_eq (name_of k) name) KINDS) e ∙ each_found b))
+
 -- a kind of the name is the one that was found
 pub found_only : (name : List ℕ) (found kind : Kind) → find (λ k. bytes_eq (name_of k) name) KINDS ≡ Some found → name_of kind ≡ name → kind ≡ found
 found_only name found kind e named = let one = each_found kind in let there = rw named at one in same_kind kind found (sym there ∙ e)

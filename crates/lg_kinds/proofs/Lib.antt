@@ -1,7 +1,13 @@
 mod LastLemmas
 mod IndexLemmas
 mod LatestLemmas
-mod KindLemmas
+pub mod KindLemmas
 mod CellLemmas
 mod FormLemmas
 mod TableLemmas
+mod NearLemmas
+mod SameRecords
+mod RowsReached
+mod SomeRecords
+pub mod OneTable
+pub mod SomeTable

@@ -1,6 +1,6 @@
 -- What the records of a port table replace: of those for one thing the last counts. Source: this project's file of
 -- places, delays and defaults.
-use Rattle.std.specs.Prelude.{ℕ, ℤ, ◌^◌, ◌-◌, min, Bool, ◌&&◌, List, [], ◌∷◌, Option, Some, None, if◌then◌else◌}
+use Rattle.std.specs.Prelude.{ℕ, ℤ, pos, neg_ℤ, int_le, ◌^◌, ◌-◌, min, Bool, true, ◌&&◌, List, [], ◌∷◌, Option, Some, None, if◌then◌else◌}
 use Rattle.std.specs.List.{filter_map}
 use Rattle.std.specs.Option.{option_or}
 use Rattle.std.specs.Set.{distinct_count}
@@ -68,3 +68,14 @@ pins_of records sheet = filter_map (pin_in sheet) records
 -- how many different pins the records move at the uses of a sheet, or the greatest count of 32 bits where there are more
 abbrev pub sheet_rows : List Record → List ℕ → ℕ
 sheet_rows records sheet = min (distinct_count bytes_eq (pins_of records sheet)) (2 ^ 32 - 1)
+
+-- an offset is so long at most, in either direction
+abbrev pub is_within : ℕ → ℤ → Bool
+is_within most offset = int_le (neg_ℤ (pos most)) offset && int_le offset (pos most)
+
+-- what a record moves, it moves by 10,000 at most in each direction
+abbrev pub is_near : Record → Bool
+is_near (Port kind port dx dy) = is_within 10000 dx && is_within 10000 dy
+is_near (Delay kind instants) = true
+is_near (Default kind attribute value) = true
+is_near (Circuit sheet pin dx dy) = is_within 10000 dx && is_within 10000 dy

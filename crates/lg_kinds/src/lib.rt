@@ -10,6 +10,7 @@ mod index;
 mod io;
 mod kind;
 mod latest;
+mod law;
 mod memory;
 mod names;
 mod plexers;
@@ -23,6 +24,7 @@ mod wiring;
 
 pub use fault::PartFault;
 pub use kind::{Kind, kind_name, kind_of};
+pub use law::files_say_one_table;
 pub use names::name_at;
 pub use port::{Loose, Port, Side};
 pub use port_table::PortTable;

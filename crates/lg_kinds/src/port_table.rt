@@ -1,9 +1,10 @@
 //! What stands in place of the table of kinds: places of ports, delays, and values of attributes that are left out.
 
-ghost use Rattle.std.specs.Prelude.{ℕ, List, ◌≡◌, ◌≤◌, [], option_map, IfOk, IfSome};
+ghost use Rattle.std.specs.Prelude.{ℕ, List, true, ◌≡◌, ◌≤◌, [], option_map, IfOk, IfSome};
+ghost use Rattle.std.specs.List.{list_all};
 ghost use Rattle.std.specs.Int.NonZero.{non_zero_u8_get};
 ghost use denote.Bor.{Bor};
-ghost use Rattle.lg_kinds.specs.PortTable.{default_of, place_of, delay_in_table, sheet_row, sheet_rows};
+ghost use Rattle.lg_kinds.specs.PortTable.{default_of, place_of, delay_in_table, sheet_row, sheet_rows, is_near};
 ghost use Rattle.std.proofs.Props.{props};
 ghost use Rattle.std.specs.Option.{option_copied};
 ghost use Rattle.lg_kinds.specs.Latest.{KnowsLatest, record_at};
@@ -23,6 +24,7 @@ pub struct PortTable {
     records: Items<Record>,
     latest: Latest,
     ghost known: { KnowsLatest records latest } by { Prim.hlevel props },
+    ghost near: { list_all is_near records ≡ true },
 }
 
 impl PortTable {
@@ -38,6 +40,7 @@ impl PortTable {
 
     // The table of these records.
     pub(crate) fn of_records(alloc: Global, records: Items<Record>) -> Result<PortTable, AllocError>
+        requires { list_all is_near records ≡ true }
         ensures { IfOk result (λ table. table.records ≡ records) }
     {
         let mut latest = Latest::new(alloc);

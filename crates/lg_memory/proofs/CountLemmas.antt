@@ -1,10 +1,10 @@
 -- Words that are counted and not kept.
-use Rattle.std.proofs.Common.{◌≡◌, ℕ, ◌+◌, ◌<◌, ◌≤◌, Bool, true, false, List, [], ◌∷◌, ◌++◌, length, take, drop, refl, ap, sym, ◌∙◌, arith, replicate, length-append}
+use Rattle.std.proofs.Common.{◌≡◌, ℕ, ◌+◌, ◌<◌, ◌≤◌, true, false, List, [], ◌++◌, length, take, drop, refl, ap, arith, replicate, length-append}
 use Rattle.std.proofs.lemmas.List.{length-replicate}
 use Rattle.lg_memory.specs.declared.run.Run.{Run}
 use Rattle.lg_memory.specs.Image.{IsRun, HasWords}
-use Rattle.lg_memory.specs.Scan.{after_gap, is_word_byte, Keeps}
-use Rattle.lg_memory.proofs.ImageLemmas.{IsReading, reading_begins, reading_more, reading_shorter, reading_bad, reading_kept, word_size}
+use Rattle.lg_memory.specs.Scan.{after_gap, Keeps}
+use Rattle.lg_memory.proofs.ImageLemmas.{IsReading, reading_begins, reading_more, reading_bad, reading_kept, word_size}
 
 -- what is known of a text behind some of its words: they would be these, and so many
 pub record IsCounting (bound limit : ℕ) (text rest : List ℕ) (count : ℕ) : Type 0 where

@@ -4,6 +4,7 @@ pub mod DefinedLemmas
 pub mod DigitLemmas
 pub mod ImageLemmas
 pub mod NumberLemmas
+pub mod ReadLemmas
 pub mod RepeatLemmas
 pub mod RunLemmas
 pub mod ScanLemmas

@@ -4,6 +4,7 @@ pub mod FlipFlop
 pub mod Form
 pub mod Image
 pub mod Inputs
+pub mod Reads
 pub mod Register
 pub mod Scan
 pub mod Shape

@@ -1,14 +1,15 @@
 //! Laws of steps and outputs.
 
-ghost use Rattle.std.specs.Prelude.{◌≡◌, ℕ, true, false, List, [], ◌∷◌, length, map, All, None, Some};
+ghost use Rattle.std.specs.Prelude.{◌≡◌, ℕ, true, false, List, [], ◌∷◌, length, map, slice_get, All, None, Some};
 ghost use Rattle.lg_value.specs.declared.bit.Bit.TheVariants.{Zero as Low, One as High};
 ghost use Rattle.lg_value.specs.Word.{IsDefined};
 ghost use Rattle.lg_memory.specs.declared.form.Trigger.TheVariants.{Rising, Falling};
 ghost use Rattle.lg_memory.specs.declared.form.StateForm.{StateForm as Form};
 ghost use Rattle.lg_memory.specs.declared.state.State.{State as Held};
 ghost use Rattle.lg_memory.specs.Form.{IsForm};
-ghost use Rattle.lg_memory.specs.Inputs.{Word, bit_at};
+ghost use Rattle.lg_memory.specs.Inputs.{Word, bit_at, word_at};
 ghost use Rattle.lg_memory.specs.Controls.{clock_of, clear_of, preset_of, is_one};
+ghost use Rattle.lg_memory.specs.Reads.{reads};
 ghost use Rattle.lg_memory.specs.Shape.{FitsInputs, AreHeld, HasShape, words_of, output_widths};
 ghost use Rattle.lg_memory.specs.Step.{stepped, outputs};
 
@@ -59,6 +60,13 @@ pub fn widths_stay()
     ensures outs { (form : Form) (words : List Word) (inputs : List Word)
         → IsForm form → AreHeld form words → FitsInputs form inputs
         → map length (outputs form words inputs) ≡ output_widths form }
+{}
+
+/// A law: an output is the same for two lists of inputs with the same words where it reads them.
+pub fn outputs_read_few_inputs()
+    ensures { (form : Form) (words : List Word) (output : ℕ) (one other : List Word)
+        → ((input : ℕ) → reads form output input ≡ true → word_at one input ≡ word_at other input)
+        → slice_get (outputs form words one) output ≡ slice_get (outputs form words other) output }
 {}
 
 /// A law: a state of a form's shape is told by its words.

@@ -23,8 +23,8 @@ pub use form::{FlipKind, Goal, StateForm, Trigger};
 pub use image::{are_words, read_image};
 pub use law::{
     a_repeated_step_changes_nothing, a_step_without_its_edge_changes_nothing,
-    clear_and_preset_act_at_every_step, defined_inputs_give_defined_words, widths_stay,
-    words_tell_the_state,
+    clear_and_preset_act_at_every_step, defined_inputs_give_defined_words, outputs_read_few_inputs,
+    widths_stay, words_tell_the_state,
 };
 pub use number::read_number;
 pub use state::{State, renew, start};

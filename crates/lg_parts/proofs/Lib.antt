@@ -5,3 +5,7 @@ pub mod RowLemmas
 pub mod GrowingLemmas
 pub mod ContentsLemmas
 pub mod DelayLemmas
+mod SoundLemmas
+mod WideLemmas
+mod NearLemmas
+pub mod BoundLemmas

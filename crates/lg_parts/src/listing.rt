@@ -1,6 +1,7 @@
 //! The ports of a component.
 
 ghost use Rattle.std.specs.Prelude.{pos, neg_ℤ, ◌≤ℤ◌, ◌≡◌, ◌++◌, ◌≤◌, IfOk, OnOk, IfErr};
+ghost use Rattle.lg_parts.specs.Bounds.{AreBounded};
 ghost use Rattle.lg_parts.specs.Given.{seen_given, component};
 ghost use Rattle.lg_parts.specs.Judged.{AllFit, Refuses};
 ghost use Rattle.lg_parts.specs.Ports.{ports_of, row_ports, port_at, offset_at};
@@ -30,6 +31,7 @@ pub fn ports(
 ) -> Result<Items<Port>, PartFault>
     ensures found { IfOk result (λ list. AllFit (component kind attrs.now.list table.now.records)
         × (list ≡ ports_of (component kind attrs.now.list table.now.records))) }
+    ensures bounded { IfOk result (λ list. AreBounded kind list) }
     ensures refused { IfErr result (λ fault. Refuses (component kind attrs.now.list table.now.records) fault) }
 {
     let given = Given { kind, attrs, table };

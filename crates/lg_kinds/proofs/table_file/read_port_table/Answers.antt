@@ -4,6 +4,7 @@ use Rattle.csv.specs.Records.{fields_of}
 use Rattle.lg_kinds.specs.declared.record.Record.{Record}
 use Rattle.lg_kinds.specs.TableFile.{HasForm, heading}
 use Rattle.lg_kinds.proofs.TableLemmas.{unread, header-bad, row-bad, header-more, row-more}
+use Rattle.lg_kinds.proofs.NearLemmas.{said_near}
 use Rattle.lg_kinds.proofs.table_file.read_port_table.Goals as goal
 use Rattle.lg_kinds.proofs.table_file.read_port_table.Goals.{then-number-eq0+else-not-is_header, else-number-eq0+in_ok-record+in-Some-2+in_ok-push-in-Some-2}
 
@@ -66,3 +67,6 @@ loop-row-preserved c =
           let form : HasForm (fields_of c.in-Ok.row) w.in-Some-2.record = rw w.in-Some-2.is at w.in_ok-record.ensures in
           rw (w.records-is, w.in_ok-push-in-Some-2.ensures.ok) (row-more c.args.bytes.now c.loop-row.number c.loop-row.records c.loop-row.row-iterator.rdr c.next.new.self.rdr c.loop-row.row-iterator.left (fields_of c.in-Ok.row) c.saturating_add-number.result w.in-Some-2.record c.next.new.self.left i s.0 s.1 s.3 counted some s.2 form)
     ]
+
+pub of_records-requires : goal.of_records-requires
+of_records-requires c = said_near c.loop-row.invariant.rows c.loop-row.records c.loop-row.invariant.said

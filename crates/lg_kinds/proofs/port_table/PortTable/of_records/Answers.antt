@@ -7,4 +7,7 @@ loop-place-preserved c =
 
 pub invariant_of-result : goal.invariant_of-result
 invariant_of-result c =
-    record { known = rw c.as_slice-record-items.ensures at (knows_all c.as_slice-record-items.result.now c.loop-place.place c.loop-place.latest c.loop-place-test.false c.loop-place.invariant) }
+    record {
+      known = rw c.as_slice-record-items.ensures at (knows_all c.as_slice-record-items.result.now c.loop-place.place c.loop-place.latest c.loop-place-test.false c.loop-place.invariant);
+      near = c.requires;
+    }
