@@ -1,7 +1,6 @@
 pub mod DriverSteps
 pub mod PartSteps
-pub mod SeenLemmas
-pub mod RunLemmas
-pub mod CountLemmas
-pub mod TableLemmas
 pub mod SteppingLemmas
+pub mod Evaluations
+pub mod Runs
+pub mod Tables

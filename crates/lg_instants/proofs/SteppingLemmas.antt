@@ -1,4 +1,4 @@
--- The program that keeps a configuration alone makes the next one.
+-- The program makes the first configuration and the next one.
 use Rattle.std.proofs.Common.{◌≡◌, ℕ, zero, suc, ◌+◌, ◌-◌, ◌<◌, ◌≤◌, List, [], ◌∷◌, ◌++◌, length, get_or, map, drop, take, inl, inr, sym, refl, ap, ◌∙◌, arith, take_all}
 use Rattle.std.specs.Prelude.{replicate, slice_index_or}
 use Rattle.std.specs.List.{enumerate_from, flat_map}
@@ -12,8 +12,8 @@ use Rattle.lg_value.proofs.DriverLemmas.{joined_in_turn_lem}
 use Rattle.lg_timing.specs.Circuit.{Word, Port, Part, Circuit, Stimulus}
 use Rattle.lg_timing.specs.Instant.{Numbered, numbered_parts, unknown_words, input_words, words_on, bits_on, pulls_of, or_else}
 use Rattle.lg_timing.specs.Configuration.{Configuration, drivers_shown, nets_shown, nets_of, first, due_of, next}
-use Rattle.lg_instants.specs.Plain.{parts_on, bit_from, outputs_after, all_outputs, all_inputs, all_states}
-use Rattle.lg_instants.specs.Stepping.{of_part, first_due, steps_from, dues_from, unknown_dues}
+use Rattle.lg_instants.specs.Plain.{parts_on, bit_from, all_inputs}
+use Rattle.lg_instants.specs.Stepping.{of_part, first_due, starts_from, steps_from, dues_from, unknown_dues}
 use Rattle.lg_instants.proofs.DriverSteps.{words_on-no_word, parts_on-no_word}
 use Rattle.lg_timing.proofs.Numbering.{map_at}
 use Rattle.lg_timing.proofs.ConfigurationSteps.{at-number}
@@ -96,20 +96,19 @@ replicate_less x (suc n) = let same : n ≡ suc n - 1 = omega arith in ap (λ k.
 
 -- the first configuration
 pub first-is : (c : Circuit) (s : Stimulus) (shown now states : List (List Word)) (unknown due : List (List (List Word)))
-    → shown ≡ all_outputs c [] → now ≡ all_inputs c (bit_from c s shown) → states ≡ all_states c [] now
+    → shown ≡ map (λ (p : Numbered). unknown_words p.1.outputs) (numbered_parts c) → now ≡ all_inputs c (bit_from c s shown) → states ≡ map (starts_from now) (numbered_parts c)
     → unknown ≡ map unknown_dues (numbered_parts c) → due ≡ map (dues_from unknown states now) (numbered_parts c)
     → with_lists s shown states due ≡ first c s
-unfolding all_outputs
 first-is c s shown now states unknown due shown_is now_is states_is unknown_is due_is =
     let parts : List Numbered = numbered_parts c in
     let nothing : List (List Word) = map (λ (p : Numbered). unknown_words p.1.outputs) parts in
     let nets : ℕ → Bit = nets_shown c s nothing in
     let read : Numbered → List Word = λ p. input_words nets p.1 in
     let state : Numbered → List Word = λ p. p.1.step p.1.start (unknown_words p.1.inputs) (read p) in
-    let shows : shown ≡ nothing = shown_is ∙ map_at (outputs_after []) (λ (p : Numbered). unknown_words p.1.outputs) parts (λ i d inside. refl) in
+    let shows : shown ≡ nothing = shown_is in
     let reads : now ≡ map read parts = now_is ∙ ap (λ (l : List (List Word)). all_inputs c (bit_from c s l)) shows ∙ ap (all_inputs c) (bit_from-shown c s nothing) in
-    let stands : states ≡ map state parts = states_is ∙ ap (all_states c []) reads
-    ∙ map_at (λ (p : Numbered). p.1.step p.1.start (unknown_words p.1.inputs) (of_part (map read parts) p)) state parts (λ i d inside.
+    let stands : states ≡ map state parts = states_is ∙ ap (λ l. map (starts_from l) parts) reads
+    ∙ map_at (starts_from (map read parts)) state parts (λ i d inside.
     let p : Numbered = get_or parts i d in
     ap (λ (w : List Word). p.1.step p.1.start (unknown_words p.1.inputs) w) (at-number read c [] i d inside)) in
     let owes : due ≡ map (λ (p : Numbered). replicate (p.1.delay - 1) (unknown_words p.1.outputs) ++ p.1.out (state p) (read p) ∷ []) parts = due_is

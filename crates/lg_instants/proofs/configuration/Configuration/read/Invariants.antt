@@ -1,0 +1,7 @@
+use Rattle.std.proofs.Common.{◌≡◌, ℕ, List, map, take}
+use Rattle.lg_instants.specs.Plain.{circuit_of, bit_from}
+use Rattle.lg_instants.proofs.configuration.Configuration.read.Given as goal
+
+abbrev pub invariant-loop-nets : goal.invariant-loop-nets
+invariant-loop-nets g l =
+    l.words.items ≡ map (λ (nets : List ℕ). map (bit_from (circuit_of g.P.Behaviour.meaning l.circuit) l.fn.self.inside.stimulus l.fn.self.inside.shown.items) nets) (take l.nets-index l.pins)
