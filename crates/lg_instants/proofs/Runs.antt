@@ -1,12 +1,12 @@
 -- What a run finds out of the busy instants, and what it counts.
-use Rattle.std.proofs.Common.{◌≡◌, ℕ, zero, suc, ◌+◌, ◌-◌, ◌^◌, ◌<◌, ◌≤◌, Bool, true, false, List, [], ◌∷◌, length, max, fold, Option, inl, inr, sym, ◌∙◌, ap, refl, subst, arith}
+use Rattle.std.proofs.Common.{◌≡◌, ℕ, zero, suc, ◌+◌, ◌-◌, ◌^◌, ◌<◌, ◌≤◌, Bool, true, false, List, [], ◌∷◌, length, max, fold, Option, Some, None, inl, inr, sym, ◌∙◌, ap, refl, subst, arith}
 use Rattle.std.specs.Prelude.{◌⊎◌, All}
 use Rattle.std.specs.List.{AllByRecursion}
 use Rattle.std.proofs.lemmas.List.Elements.{recursion_from_All, All-from_recursion}
 use Rattle.lg_instants.specs.declared.run.Run.{Run}
 use Rattle.lg_timing.specs.Circuit.{Part, Circuit, Stimulus}
 use Rattle.lg_timing.specs.Settling.{IsSteady}
-use Rattle.lg_timing.specs.Configuration.{Configuration, next, staying, stimulus_of}
+use Rattle.lg_timing.specs.Configuration.{Configuration, first, next, staying, stimulus_of}
 use Rattle.lg_timing.specs.Evaluation.{evaluations_between, counted}
 use Rattle.lg_timing.specs.Staying.{is_busy_between, is_busy_on, IsNextBusy, busy_count_on, SettlesIn, OscillatesIn, configuration_put, evaluations_put, evaluations_on, evaluations_since, HasStood, IsLedTo}
 use Rattle.lg_timing.proofs.Still.{delays-from_steady}
@@ -86,37 +86,68 @@ since-on c stood s m n =
     let all : evaluations_since c stood s m + evaluations_on c (staying c k m) n ≡ evaluations_since c stood s (m + n) = omega (arith, evaluations-on c k m n) in
     counted-more (evaluations_since c stood s m) (evaluations_on c (staying c k m) n) ∙ ap counted all
 
--- a run from a stimulus on that goes on is one
-pub run-on : (c : Circuit) (stood : Option Configuration) (s : Stimulus) (old new : Run) (n : ℕ) → IsRun c stood s old → RunGoesOn c old new n → IsRun c stood s new
-run-on c stood s old new zero is on =
+-- where a run from a stimulus on stands once it has gone on
+pub on-configuration : (c : Circuit) (stood : Option Configuration) (s : Stimulus) (old new : Run) (n : ℕ) → IsRun c stood s old → RunGoesOn c old new n
+    → new.configuration ≡ staying c (configuration_put c stood s) (old.took + n)
+on-configuration c stood s old new n is on =
+    on.configuration ∙ ap (λ j. staying c j n) is.configuration ∙ staying-on c (configuration_put c stood s) old.took n
+
+-- and how many evaluations it has counted
+pub on-evaluations : (c : Circuit) (stood : Option Configuration) (s : Stimulus) (old new : Run) (n : ℕ) → IsRun c stood s old → RunGoesOn c old new n
+    → new.evaluations ≡ counted (evaluations_since c stood s (old.took + n))
+on-evaluations c stood s old new n is on =
+    on.evaluations ∙ ap (λ m. counted (m + evaluations_on c old.configuration n)) is.evaluations
+    ∙ ap (λ j. counted (counted (evaluations_since c stood s old.took) + evaluations_on c j n)) is.configuration
+    ∙ since-on c stood s old.took n
+
+-- it still is one
+pub run-on : (c : Circuit) (stood : Option Configuration) (s : Stimulus) (old new : Run) (n : ℕ) → 0 < n → IsRun c stood s old → RunGoesOn c old new n → IsRun c stood s new
+run-on c stood s old new n some is on =
     let k : Configuration = configuration_put c stood s in
-    let same : old.took + 0 ≡ new.took = omega (arith, on.took) in
-    let here : new.took ≡ old.took = omega (arith, on.took) in
+    let there : old.took + n ≡ new.took = omega (arith, on.took) in
+    let before_there : old.took + (n - 1) ≡ new.took - 1 = omega (arith, on.took, some) in
     record {
-      configuration = on.configuration ∙ ap (λ j. staying c j 0) is.configuration ∙ staying-on c k old.took 0 ∙ ap (staying c k) same;
-      evaluations =
-          on.evaluations ∙ ap (λ m. counted (m + evaluations_on c old.configuration 0)) is.evaluations
-          ∙ ap (λ j. counted (counted (evaluations_since c stood s old.took) + evaluations_on c j 0)) is.configuration
-          ∙ since-on c stood s old.took 0 ∙ ap (λ m. counted (evaluations_since c stood s m)) same;
+      configuration = on-configuration c stood s old new n is on ∙ ap (staying c k) there;
+      evaluations = on-evaluations c stood s old new n is on ∙ ap (λ m. counted (evaluations_since c stood s m)) there;
+      before = λ later.
+          on.before some
+          ∙ ap (λ m. counted (m + evaluations_on c old.configuration (n - 1))) is.evaluations
+          ∙ ap (λ j. counted (counted (evaluations_since c stood s old.took) + evaluations_on c j (n - 1))) is.configuration
+          ∙ since-on c stood s old.took (n - 1) ∙ ap (λ m. counted (evaluations_since c stood s m)) before_there;
+    }
+
+-- a run begins with the first stimulus
+begins-first : (c : Circuit) (s : Stimulus) (k : Configuration) (count : ℕ) → k ≡ first c s → count ≡ length c.parts → count < 2 ^ 64
+    → IsRun c None s (record { configuration = k; took = 0; before = 0; evaluations = count })
+begins-first c s k count is all few =
+    let none = evaluations-zero c (first c s) in
+    record {
+      configuration = is ∙ sym (staying-none c (first c s));
+      evaluations = omega (arith, none, all, few);
       before = λ some. absurd (omega (arith, some));
     }
-run-on c stood s old new (suc n) is on =
-    let k : Configuration = configuration_put c stood s in
-    let there : old.took + suc n ≡ new.took = omega (arith, on.took) in
-    let one_less : suc n - 1 ≡ n = omega arith in
-    let before_there : old.took + n ≡ new.took - 1 = omega (arith, on.took) in
+
+pub run-first : (c : Circuit) (stood : Option Configuration) (s : Stimulus) (k : Configuration) (count : ℕ) → stood ≡ None → k ≡ first c s → count ≡ length c.parts → count < 2 ^ 64
+    → IsRun c stood s (record { configuration = k; took = 0; before = 0; evaluations = count })
+run-first c stood s k count none is all few =
+    subst (λ (o : Option Configuration). IsRun c o s (record { configuration = k; took = 0; before = 0; evaluations = count })) (sym none) (begins-first c s k count is all few)
+
+-- or with one that is put on what stood
+begins-next : (c : Circuit) (j : Configuration) (s : Stimulus) (k : Configuration) (count : ℕ) → k ≡ next c s j → count ≡ evaluations_between c j k → count < 2 ^ 64
+    → IsRun c (Some j) s (record { configuration = k; took = 0; before = 0; evaluations = count })
+begins-next c j s k count is all few =
+    let none = evaluations-zero c (next c s j) in
+    let between = all ∙ ap (evaluations_between c j) is in
     record {
-      configuration = on.configuration ∙ ap (λ j. staying c j (suc n)) is.configuration ∙ staying-on c k old.took (suc n) ∙ ap (staying c k) there;
-      evaluations =
-          on.evaluations ∙ ap (λ m. counted (m + evaluations_on c old.configuration (suc n))) is.evaluations
-          ∙ ap (λ j. counted (counted (evaluations_since c stood s old.took) + evaluations_on c j (suc n))) is.configuration
-          ∙ since-on c stood s old.took (suc n) ∙ ap (λ m. counted (evaluations_since c stood s m)) there;
-      before = λ some.
-          on.before (omega arith) ∙ ap (λ m. counted (old.evaluations + evaluations_on c old.configuration m)) one_less
-          ∙ ap (λ m. counted (m + evaluations_on c old.configuration n)) is.evaluations
-          ∙ ap (λ j. counted (counted (evaluations_since c stood s old.took) + evaluations_on c j n)) is.configuration
-          ∙ since-on c stood s old.took n ∙ ap (λ m. counted (evaluations_since c stood s m)) before_there;
+      configuration = is ∙ sym (staying-none c (next c s j));
+      evaluations = omega (arith, none, between, few);
+      before = λ some. absurd (omega (arith, some));
     }
+
+pub run-next : (c : Circuit) (stood : Option Configuration) (j : Configuration) (s : Stimulus) (k : Configuration) (count : ℕ) → stood ≡ Some j → k ≡ next c s j → count ≡ evaluations_between c j k → count < 2 ^ 64
+    → IsRun c stood s (record { configuration = k; took = 0; before = 0; evaluations = count })
+run-next c stood j s k count some is all few =
+    subst (λ (o : Option Configuration). IsRun c o s (record { configuration = k; took = 0; before = 0; evaluations = count })) (sym some) (begins-next c j s k count is all few)
 
 -- the last busy instant so far, and the number of busy ones up to it
 pub record IsReached (c : Circuit) (k : Configuration) (last count : ℕ) : Type 0 where
@@ -160,14 +191,15 @@ oscillates-some c k limit zero oscillates = absurd (omega (arith, oscillates.num
 oscillates-some c k limit (suc n) oscillates = omega arith
 
 -- a run that went on past where all has settled stands there still, and has counted just those up to there
-pub run-settled : (greatest limit : ℕ) (c : Circuit) (stood : Option Configuration) (s : Stimulus) (run : Run) (took n : ℕ) → All (IsSteady greatest) c.parts → HasStood c stood
-    → IsRun c stood s run → run.took ≡ took + n → SettlesIn c (configuration_put c stood s) limit took
-    → (run.configuration ≡ staying c (configuration_put c stood s) took) × (run.evaluations ≡ counted (evaluations_since c stood s took))
-run-settled greatest limit c stood s run took n steady has is there settles =
+pub run-settled : (greatest limit : ℕ) (c : Circuit) (stood : Option Configuration) (s : Stimulus) (old new : Run) (took n : ℕ) → All (IsSteady greatest) c.parts → HasStood c stood
+    → IsRun c stood s old → old.took ≡ took → RunGoesOn c old new n → SettlesIn c (configuration_put c stood s) limit took
+    → (new.configuration ≡ staying c (configuration_put c stood s) took) × (new.evaluations ≡ counted (evaluations_since c stood s took))
+run-settled greatest limit c stood s old new took n steady has is there on settles =
     let k : Configuration = configuration_put c stood s in
     let delays = delays-from_steady greatest c steady in
-    let led = led-put c stood s delays has in (
-      is.configuration ∙ ap (staying c k) there ∙ staying-settled greatest c k limit took n steady led settles,
-      is.evaluations ∙ ap (λ m. counted (evaluations_since c stood s m)) there
+    let led = led-put c stood s delays has in
+    let far : old.took + n ≡ took + n = ap (λ m. m + n) there in (
+      on-configuration c stood s old new n is on ∙ ap (staying c k) far ∙ staying-settled greatest c k limit took n steady led settles,
+      on-evaluations c stood s old new n is on ∙ ap (λ m. counted (evaluations_since c stood s m)) far
           ∙ ap (λ m. counted (evaluations_put c stood s + m)) (evaluations-when_settled c k limit took n delays led settles),
     )

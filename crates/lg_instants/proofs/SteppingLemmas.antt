@@ -54,17 +54,30 @@ bit_from-shown c s shown =
     ∙ ap (λ (bit : Bit). or_else bit (joined_in_turn (pulls_of c net))) (joined_in_turn_lem (drivers_shown c s shown net))
     ∙ ap (λ (bit : Bit). or_else (join_of_drivers (drivers_shown c s shown net)) bit) (joined_in_turn_lem (pulls_of c net)))
 
+-- the word on one pin more
+pub words-more : (f : ℕ → Bit) (pins : List (List ℕ)) (i : ℕ) (nets : List ℕ) (words : List Word) → i < length pins → nets ≡ get_or pins i nets → words ≡ map (λ (n : List ℕ). map f n) (take i pins)
+    → words ++ map f nets ∷ [] ≡ map (λ (n : List ℕ). map f n) (take (i + 1) pins)
+words-more f pins i nets words inside is before =
+    ap (λ l. l ++ map f nets ∷ []) before
+    ∙ ap (λ (n : List ℕ). map (λ (m : List ℕ). map f m) (take i pins) ++ map f n ∷ []) is
+    ∙ sym (map_more (λ (n : List ℕ). map f n) pins i nets inside)
+
 -- one part more, of what a number alone decides
-no_part : Part
+pub no_part : Part
 no_part = record { delay = 0; inputs = []; outputs = []; start = []; step = λ state before now. state; out = λ state now. [] }
+
+pub number_at : {P : Type 0} (meaning : P → Part) (xs : List P) (i : ℕ) → i < length xs → (get_or (enumerate_from 0 (map meaning xs)) i (i, no_part)).0 ≡ i
+number_at meaning xs i inside =
+    let parts = map meaning xs in
+    let is = get_or-enumerate_from 0 parts i (i, no_part) (simp length-map inside) in
+    ap (λ (p : Numbered). p.0) is ∙ omega arith
 
 pub by_number_more : {P X : Type 0} (meaning : P → Part) (f : ℕ → X) (xs : List P) (i : ℕ) → i < length xs
     → map (λ (p : Numbered). f p.0) (take (i + 1) (enumerate_from 0 (map meaning xs))) ≡ map (λ (p : Numbered). f p.0) (take i (enumerate_from 0 (map meaning xs))) ++ f i ∷ []
 by_number_more meaning f xs i inside =
     let parts = map meaning xs in
     let there : i < length parts = simp length-map inside in
-    let is = get_or-enumerate_from 0 parts i (i, no_part) there in
-    let number : (get_or (enumerate_from 0 parts) i (i, no_part)).0 ≡ i = ap (λ (p : Numbered). p.0) is ∙ omega arith in
+    let number = number_at meaning xs i inside in
     map_more (λ (p : Numbered). f p.0) (enumerate_from 0 parts) i (i, no_part) (rw (length-enumerate_from 0 parts) there)
     ∙ ap (λ k. map (λ (p : Numbered). f p.0) (take i (enumerate_from 0 parts)) ++ f k ∷ []) number
 

@@ -1,6 +1,6 @@
 -- Where a table ends.
-use Rattle.std.proofs.Common.{◌≡◌, ℕ, ◌+◌, ◌<◌, ◌≤◌, List, [], ◌∷◌, ◌++◌, length, drop, get_or, Option, Some, None, sym, ◌∙◌, ap, subst, refl, rules}
-use Rattle.std.proofs.lemmas.List.{at_drop_more, at_drop_all}
+use Rattle.std.proofs.Common.{◌≡◌, ℕ, ◌+◌, ◌<◌, ◌≤◌, List, [], ◌∷◌, ◌++◌, length, drop, get_or, Option, Some, None, sym, ◌∙◌, ap, subst, refl}
+use Rattle.std.proofs.lemmas.List.{append_assoc, append-nil, at_drop_more, at_drop_all}
 use Rattle.lg_timing.specs.declared.phase.Phase.{Phase}
 use Rattle.lg_timing.specs.Circuit.{Word, Circuit}
 use Rattle.lg_timing.specs.Configuration.{Configuration}
@@ -12,11 +12,8 @@ abbrev pub Begins : Circuit → ℕ → List (List Word) → List Line → Optio
 Begins c limit rows lines stood row rest =
     (more : List Line) (stop : Option Stop) → GoesOnFrom c limit stood row rest more stop → GoesOnFrom c limit None 1 rows (lines ++ more) stop
 
-no_more : (lines : List Line) → lines ++ [] ≡ lines
-no_more lines = search rules
-
 one_before : (lines more : List Line) (line : Line) → lines ++ line ∷ more ≡ (lines ++ line ∷ []) ++ more
-one_before lines more line = search rules
+one_before lines more line = sym (append_assoc lines (line ∷ []) more)
 
 -- after the last row it ends
 pub table-done : (c : Circuit) (limit : ℕ) (rows : List (List Word)) (lines : List Line) (stood : Option Configuration) (row i : ℕ) → length rows ≤ i
@@ -25,7 +22,7 @@ table-done c limit rows lines stood row i past begins =
     let all : drop i rows ≡ [] = at_drop_all (λ (l : List (List Word)). l) rows i past in
     let P : List (List Word) → Type 0 = λ l. GoesOnFrom c limit stood row l [] None in
     let Q : List Line → Type 0 = λ l. GoesOnFrom c limit None 1 rows l None in
-    subst Q (no_more lines) (begins [] None (subst P (sym all) tt))
+    subst Q (append-nil lines) (begins [] None (subst P (sym all) tt))
 
 here_and_rest : (rows : List (List Word)) (i : ℕ) (words : List Word) → i < length rows → words ≡ get_or rows i words → drop i rows ≡ words ∷ drop (i + 1) rows
 here_and_rest rows i words inside is = at_drop_more (λ (l : List (List Word)). l) rows i words inside ∙ ap (λ w. w ∷ drop (i + 1) rows) (sym is)
@@ -38,7 +35,7 @@ table-stops c limit rows lines stood row i words phase inside is stops begins =
     let stop : Stop = record { row = row; phase = phase } in
     let P : List (List Word) → Type 0 = λ l. GoesOnFrom c limit stood row l [] (Some stop) in
     let Q : List Line → Type 0 = λ l. GoesOnFrom c limit None 1 rows l (Some stop) in
-    subst Q (no_more lines) (begins [] (Some stop) (subst P (sym (here_and_rest rows i words inside is)) (refl, stops)))
+    subst Q (append-nil lines) (begins [] (Some stop) (subst P (sym (here_and_rest rows i words inside is)) (refl, stops)))
 
 -- a row more
 pub table-more : (c : Circuit) (limit : ℕ) (rows : List (List Word)) (lines : List Line) (stood : Option Configuration) (row i : ℕ) (words : List Word) (line : Line) (last : Configuration)

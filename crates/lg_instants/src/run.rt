@@ -120,7 +120,7 @@ fn begin<P: Behaviour>(
 ) -> Result<Run, AllocError>
     requires { IsWellFormed (circuit_of P.meaning circuit.now) }
     ensures is { IfOk result
-        (λ run. IsRun (circuit_of P.meaning circuit.now) (option_copied stood) stimulus.now run) }
+        (λ run. IsRun (circuit_of P.meaning circuit.now) (option_copied stood.entry) stimulus.now run) }
     ensures none { IfOk result (λ run. run.took ≡ 0) }
 {
     match stood {
@@ -201,9 +201,9 @@ pub fn settle<P: Behaviour>(
     requires steady { (greatest : ℕ) × All (IsSteady greatest) (circuit_of P.meaning circuit.now).parts }
     requires stood { HasStood (circuit_of P.meaning circuit.now) (option_copied stood) }
     ensures settling { IfOk result (λ outcome. IsSettlingOn (circuit_of P.meaning circuit.now)
-        (option_copied stood) stimulus.now limit outcome.settling) }
+        (option_copied stood.entry) stimulus.now limit outcome.settling) }
     ensures configuration { IfOk result (λ outcome. outcome.configuration ≡ staying (circuit_of P.meaning circuit.now)
-        (configuration_put (circuit_of P.meaning circuit.now) (option_copied stood) stimulus.now)
+        (configuration_put (circuit_of P.meaning circuit.now) (option_copied stood.entry) stimulus.now)
         (instants_of outcome.settling)) }
 {
     let reach = greatest_delay(circuit.parts.as_slice());

@@ -109,7 +109,7 @@ fn put<P: Behaviour>(
     requires steady { (greatest : ℕ) × All (IsSteady greatest) (circuit_of P.meaning circuit.now).parts }
     requires stood { HasStood (circuit_of P.meaning circuit.now) (option_copied stood) }
     ensures { IfOk result (λ ending. EndsIn (circuit_of P.meaning circuit.now) limit
-        (option_copied stood) (stimulus 0 words.now clock) ending) }
+        (option_copied stood.entry) (stimulus 0 words.now clock) ending) }
 {
     let stimulus = Stimulus::new(0, Words::copy_of(alloc, words.words())?, clock);
     let outcome = settle(alloc, circuit, stood, &stimulus, limit)?;
@@ -131,7 +131,7 @@ fn row_of<P: Behaviour>(
     requires steady { (greatest : ℕ) × All (IsSteady greatest) (circuit_of P.meaning circuit.now).parts }
     requires stood { HasStood (circuit_of P.meaning circuit.now) (option_copied stood) }
     ensures { IfOk result (λ row. RowEnds (circuit_of P.meaning circuit.now) limit
-        (option_copied stood) words.now row) }
+        (option_copied stood.entry) words.now row) }
 {
     let (settle, settled) = match put(alloc, circuit, stood, words, Bit::Zero, limit)? {
         Ending::Oscillates => return Ok(Row::Stops(Phase::Settle)),

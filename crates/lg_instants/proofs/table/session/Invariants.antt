@@ -1,4 +1,4 @@
-use Rattle.std.proofs.Common.{◌≡◌, ◌+◌, drop}
+use Rattle.std.proofs.Common.{◌+◌, drop}
 use Rattle.lg_timing.specs.Staying.{HasStood}
 use Rattle.lg_instants.specs.Plain.{circuit_of}
 use Rattle.lg_instants.proofs.Tables.{Begins}
