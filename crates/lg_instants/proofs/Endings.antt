@@ -14,15 +14,16 @@ use Rattle.lg_instants.specs.Stepping.{instants_of}
 use Rattle.lg_instants.specs.Rows.{EndsIn}
 
 -- one that settles leaves a configuration on which the next may be put
-pub ends-settled : (c : Circuit) (limit : ℕ) (stood : Option Configuration) (s : Stimulus) (settling : Settling) (took count : ℕ) (at : Configuration) → HaveDelays c → HasStood c stood
-    → settling ≡ Settled took count → IsSettlingOn c stood s limit settling → at ≡ staying c (configuration_put c stood s) (instants_of settling)
+pub ends-settled : (c : Circuit) (limit : ℕ) (stood : Option Configuration) (s : Stimulus) (settling : Settling) (took count : ℕ) (at : Configuration)
+    → settling ≡ Settled took count → IsSettlingOn c stood s limit settling → at ≡ staying c (configuration_put c stood s) (instants_of settling) → IsLedTo c at
     → EndsIn c limit stood s (Ends took at)
-ends-settled c limit stood s settling took count at delays has is settles there =
-    let k : Configuration = configuration_put c stood s in
-    let here : at ≡ staying c k took = there ∙ ap (λ x. staying c k (instants_of x)) is in (
-      record { settles = (subst (IsSettlingOn c stood s limit) is settles).0; there = here },
-      subst (IsLedTo c) (sym here) (led-staying c k took delays (led-put c stood s delays has)),
-    )
+ends-settled c limit stood s settling took count at is settles there led = (
+  record {
+    settles = (subst (IsSettlingOn c stood s limit) is settles).0;
+    there = there ∙ ap (λ x. staying c (configuration_put c stood s) (instants_of x)) is;
+  },
+  led,
+)
 
 -- one that oscillates
 pub ends-oscillates : (c : Circuit) (limit : ℕ) (stood : Option Configuration) (s : Stimulus) (settling : Settling) (after count : ℕ)

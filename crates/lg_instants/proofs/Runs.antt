@@ -10,7 +10,7 @@ use Rattle.lg_timing.specs.Configuration.{Configuration, first, next, staying, s
 use Rattle.lg_timing.specs.Evaluation.{evaluations_between, counted}
 use Rattle.lg_timing.specs.Staying.{is_busy_between, is_busy_on, IsNextBusy, busy_count_on, SettlesIn, OscillatesIn, configuration_put, evaluations_put, evaluations_on, evaluations_since, HasStood, IsLedTo}
 use Rattle.lg_timing.proofs.Still.{delays-from_steady}
-use Rattle.lg_timing.proofs.LedTo.{quiet-led, led-put, staying-settled}
+use Rattle.lg_timing.proofs.LedTo.{quiet-led, led-put, led-staying, staying-settled}
 use Rattle.lg_timing.proofs.OneWay.{count-none, count-next}
 use Rattle.lg_timing.proofs.StayingOn.{staying-suc, staying-none, staying-on, busy-on, next-on, evaluations-suc, evaluations-zero, evaluations-on, evaluations-when_settled}
 use Rattle.lg_instants.specs.Plain.{greatest_delay}
@@ -203,3 +203,10 @@ run-settled greatest limit c stood s old new took n steady has is there on settl
       on-evaluations c stood s old new n is on ∙ ap (λ m. counted (evaluations_since c stood s m)) far
           ∙ ap (λ m. counted (evaluations_put c stood s + m)) (evaluations-when_settled c k limit took n delays led settles),
     )
+
+-- where it stands the next one may be put
+pub led-there : (greatest : ℕ) (c : Circuit) (stood : Option Configuration) (s : Stimulus) (at : Configuration) (n : ℕ) → All (IsSteady greatest) c.parts → HasStood c stood
+    → at ≡ staying c (configuration_put c stood s) n → IsLedTo c at
+led-there greatest c stood s at n steady has is =
+    let delays = delays-from_steady greatest c steady in
+    subst (IsLedTo c) (sym is) (led-staying c (configuration_put c stood s) n delays (led-put c stood s delays has))

@@ -4,7 +4,7 @@ ghost use Rattle.std.specs.Prelude.{◌≡◌, ◌+◌, ◌^◌, ◌<◌, ℕ, I
 ghost use Rattle.lg_timing.specs.Settling.{IsSteady};
 ghost use Rattle.lg_timing.specs.Configuration.{staying, HaveDelays};
 ghost use Rattle.lg_timing.specs.Evaluation.{evaluations_at, evaluations_between};
-ghost use Rattle.lg_timing.specs.Staying.{is_busy_between, configuration_put, IsSettlingOn, HasStood};
+ghost use Rattle.lg_timing.specs.Staying.{is_busy_between, configuration_put, IsSettlingOn, IsLedTo, HasStood};
 ghost use Rattle.lg_instants.specs.Plain.{IsWellFormed, circuit_of, greatest_delay};
 ghost use Rattle.lg_instants.specs.Stepping.{differing, instants_of, IsRun, RunSteps, RunFinds};
 
@@ -205,6 +205,8 @@ pub fn settle<P: Behaviour>(
     ensures configuration { IfOk result (λ outcome. outcome.configuration ≡ staying (circuit_of P.meaning circuit.now)
         (configuration_put (circuit_of P.meaning circuit.now) (option_copied stood.entry) stimulus.now)
         (instants_of outcome.settling)) }
+    // So the next stimulus may be put on it.
+    ensures led { IfOk result (λ outcome. IsLedTo (circuit_of P.meaning circuit.now) outcome.configuration) }
 {
     let reach = greatest_delay(circuit.parts.as_slice());
     let mut run = begin(alloc, circuit, stood, stimulus)?;

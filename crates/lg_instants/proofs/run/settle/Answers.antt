@@ -7,7 +7,7 @@ use Rattle.lg_timing.proofs.Still.{delays-from_steady}
 use Rattle.lg_timing.proofs.LedTo.{led-put}
 use Rattle.lg_instants.specs.Plain.{circuit_of, greatest_delay}
 use Rattle.lg_instants.specs.Stepping.{RunFinds}
-use Rattle.lg_instants.proofs.Runs.{run-on, run-settled, IsReached, reached-start, reached-next, reached-settles, reached-oscillates, oscillates-some}
+use Rattle.lg_instants.proofs.Runs.{run-on, run-settled, led-there, IsReached, reached-start, reached-next, reached-settles, reached-oscillates, oscillates-some}
 use Rattle.lg_instants.proofs.run.settle.Goals as goal
 
 pub loop-init : goal.loop-init
@@ -47,6 +47,11 @@ returns-then-not-branch-clause-configuration g c =
     (run-settled c.requires.steady.0 c.args.limit circuit stood s c.loop.run c.next_busy.new.run c.loop.last c.greatest_delay-reach.result
     c.requires.steady.1 c.requires.stood c.loop.invariant.is c.loop.invariant.here finds.0 settling.0).0
 
+pub returns-then-not-branch-clause-led : goal.returns-then-not-branch-clause-led
+returns-then-not-branch-clause-led g c =
+    led-there c.requires.steady.0 (circuit_of g.P.Behaviour.meaning c.args.circuit.now) (option_copied c.args.stood) c.args.stimulus.now c.next_busy.new.run.configuration c.loop.last
+    c.requires.steady.1 c.requires.stood (returns-then-not-branch-clause-configuration g c)
+
 pub loop-preserved : goal.loop-preserved
 loop-preserved g c =
     let circuit = circuit_of g.P.Behaviour.meaning c.args.circuit.now in
@@ -77,3 +82,8 @@ returns-clause-settling g c =
       past,
       c.loop.invariant.is.before some ∙ ap (λ (m : ℕ). counted (evaluations_since circuit stood s (m - 1))) c.loop.invariant.here,
     )
+
+pub returns-clause-led : goal.returns-clause-led
+returns-clause-led g c =
+    led-there c.requires.steady.0 (circuit_of g.P.Behaviour.meaning c.args.circuit.now) (option_copied c.args.stood) c.args.stimulus.now c.loop.run.configuration c.loop.run.took
+    c.requires.steady.1 c.requires.stood c.loop.invariant.is.configuration
