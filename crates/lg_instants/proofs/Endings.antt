@@ -4,11 +4,10 @@ use Rattle.std.specs.Prelude.{◌==◌}
 use Rattle.lg_timing.specs.declared.settling.Settling.{Settling}
 use Rattle.lg_timing.specs.declared.settling.Settling.TheVariants.{Settled, Oscillates}
 use Rattle.lg_timing.specs.Circuit.{Word, Circuit, Stimulus}
-use Rattle.lg_timing.specs.Configuration.{Configuration, staying, HaveDelays}
+use Rattle.lg_timing.specs.Configuration.{Configuration, staying}
 use Rattle.lg_timing.specs.Session.{Line, set_at, rise_at, HasClock}
-use Rattle.lg_timing.specs.Staying.{configuration_put, IsSettlingOn, IsLedTo, HasStood}
+use Rattle.lg_timing.specs.Staying.{configuration_put, IsSettlingOn, IsLedTo}
 use Rattle.lg_timing.specs.RowByRow.{SettlesTo, OscillatesOn, read_on, TicksOn, RowLeaves}
-use Rattle.lg_timing.proofs.LedTo.{led-put, led-staying}
 use Rattle.lg_instants.specs.declared.table.Ending.TheVariants.{Settled as Ends}
 use Rattle.lg_instants.specs.Stepping.{instants_of}
 use Rattle.lg_instants.specs.Rows.{EndsIn}

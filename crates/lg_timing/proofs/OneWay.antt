@@ -60,6 +60,17 @@ not_both_on c k limit took after settles oscillates =
       | inr h ↦ omega (arith, settles.few_busy, oscillates.number, count-mono c k after took (omega (arith, h)))
     ]
 
+-- what holds of no two numbers in turn holds of one alone
+once : (P : ℕ → Type 0) → ((a b : ℕ) → P a → P b → a < b → ⊥) → (a b : ℕ) → P a → P b → a ≡ b
+once P not_later a b one other =
+    elim (cases_order a b) [
+      | inl same ↦ same
+      | inr apart ↦ elim apart [
+        | inl h ↦ absurd (not_later a b one other h)
+        | inr h ↦ absurd (not_later b a other one h)
+      ]
+    ]
+
 settles_no_later : (c : Circuit) (k : Configuration) (limit a b : ℕ) → SettlesIn c k limit a → SettlesIn c k limit b → a < b → ⊥
 settles_no_later c k limit a b one other below =
     elim other.last_busy [
@@ -68,37 +79,16 @@ settles_no_later c k limit a b one other below =
     ]
 
 pub settles_once_on : (c : Circuit) (k : Configuration) (limit a b : ℕ) → SettlesIn c k limit a → SettlesIn c k limit b → a ≡ b
-settles_once_on c k limit a b one other =
-    elim (cases_order a b) [
-      | inl same ↦ same
-      | inr apart ↦ elim apart [
-        | inl h ↦ absurd (settles_no_later c k limit a b one other h)
-        | inr h ↦ absurd (settles_no_later c k limit b a other one h)
-      ]
-    ]
+settles_once_on c k limit = once (SettlesIn c k limit) (settles_no_later c k limit)
 
 oscillates_no_later : (c : Circuit) (k : Configuration) (limit a b : ℕ) → OscillatesIn c k limit a → OscillatesIn c k limit b → a < b → ⊥
 oscillates_no_later c k limit a b one other below = omega (arith, one.number, other.number, count-above c k a b below other.busy)
 
 pub oscillates_once_on : (c : Circuit) (k : Configuration) (limit a b : ℕ) → OscillatesIn c k limit a → OscillatesIn c k limit b → a ≡ b
-oscillates_once_on c k limit a b one other =
-    elim (cases_order a b) [
-      | inl same ↦ same
-      | inr apart ↦ elim apart [
-        | inl h ↦ absurd (oscillates_no_later c k limit a b one other h)
-        | inr h ↦ absurd (oscillates_no_later c k limit b a other one h)
-      ]
-    ]
+oscillates_once_on c k limit = once (OscillatesIn c k limit) (oscillates_no_later c k limit)
 
 next_no_later : (c : Circuit) (k : Configuration) (after a b : ℕ) → IsNextBusy c k after a → IsNextBusy c k after b → a < b → ⊥
 next_no_later c k after a b one other below = both_ways (is_busy_on c k a) (other.quiet a one.later below) one.busy
 
 pub next_once : (c : Circuit) (k : Configuration) (after a b : ℕ) → IsNextBusy c k after a → IsNextBusy c k after b → a ≡ b
-next_once c k after a b one other =
-    elim (cases_order a b) [
-      | inl same ↦ same
-      | inr apart ↦ elim apart [
-        | inl h ↦ absurd (next_no_later c k after a b one other h)
-        | inr h ↦ absurd (next_no_later c k after b a other one h)
-      ]
-    ]
+next_once c k after = once (IsNextBusy c k after) (next_no_later c k after)
