@@ -1,13 +1,10 @@
 -- The parts of the tests: gates, a constant, delay lines and a flip-flop, with ports of one bit.
 use Rattle.std.specs.Prelude.{ℕ, Bool, ◌&&◌, List, [], ◌∷◌, if◌then◌else◌}
-use Rattle.lg_base_tests.specs.declared.timing_samples.Kind.{Kind}
-use Rattle.lg_base_tests.specs.declared.timing_samples.Kind.TheVariants.{Not, And, Nand, Line3, Line5, Constant, FlipFlop}
-use Rattle.lg_base_tests.specs.declared.timing_samples.Sample.{Sample}
 use Rattle.lg_value.specs.declared.bit.Bit.{Bit}
 use Rattle.lg_value.specs.declared.bit.Bit.TheVariants.{Zero, One, Unknown, Error}
 use Rattle.lg_value.specs.Bit.{same_bit, not_bit}
 use Rattle.lg_timing.specs.Circuit.{Word, Port, Part}
-use Rattle.lg_timing.specs.Samples.{bit_in, one_word, gate_in, gate, not_gate}
+use Rattle.lg_timing.specs.Samples.{bit_in, one_word, gate_in, gate}
 
 -- AND of two bits: a 0 gives 0, else an undefined bit gives an error, else 1
 abbrev pub and_bit : Bit → Bit → Bit
@@ -45,15 +42,3 @@ flip_flop inputs outputs = record {
   step = λ state before now. if rises before now then one_word (bit_in now 0) else state;
   out = λ state now. (bit_in state 0 ∷ []) ∷ one_word (not_bit (bit_in state 0));
 }
-
-abbrev pub part_of : Kind → List Port → List Port → Part
-part_of Not inputs outputs = not_gate inputs outputs
-part_of And inputs outputs = and_gate inputs outputs
-part_of Nand inputs outputs = nand_gate inputs outputs
-part_of Line3 inputs outputs = line_in 3 inputs outputs
-part_of Line5 inputs outputs = line_in 5 inputs outputs
-part_of Constant inputs outputs = constant inputs outputs
-part_of FlipFlop inputs outputs = flip_flop inputs outputs
-
-abbrev pub meaning_of : Sample → Part
-meaning_of s = part_of s.kind s.inputs.items s.outputs.items

@@ -75,9 +75,19 @@ fn rises(before: &[Word], now: &[Word]) -> bool
 }
 
 impl Behaviour for Sample {
-    ghost use Rattle.lg_base_tests.specs.TimingSamples.{meaning_of};
+    ghost use Rattle.lg_base_tests.specs.declared.timing_samples.Kind.TheVariants.{Not, And, Nand, Line3, Line5, Constant, FlipFlop};
+    ghost use Rattle.lg_timing.specs.Samples.{not_gate};
+    ghost use Rattle.lg_base_tests.specs.TimingSamples.{and_gate, nand_gate, line_in, constant, flip_flop};
 
-    ghost meaning = { meaning_of };
+    ghost meaning = { λ s. elim s.kind [
+      | Not ↦ not_gate s.inputs.items s.outputs.items
+      | And ↦ and_gate s.inputs.items s.outputs.items
+      | Nand ↦ nand_gate s.inputs.items s.outputs.items
+      | Line3 ↦ line_in 3 s.inputs.items s.outputs.items
+      | Line5 ↦ line_in 5 s.inputs.items s.outputs.items
+      | Constant ↦ constant s.inputs.items s.outputs.items
+      | FlipFlop ↦ flip_flop s.inputs.items s.outputs.items
+    ] };
 
     fn delay(&self) -> u32 {
         match self.kind {

@@ -1,7 +1,7 @@
 use Rattle.std.proofs.Common.{◌≤◌, get_or}
 use Rattle.std.proofs.lemmas.List.Elements.{All-map}
 use Rattle.lg_timing.specs.Circuit.{Part}
-use Rattle.lg_base_tests.proofs.SampleLemmas.{least_kind}
+use Rattle.lg_base_tests.proofs.timing.SampleKinds.{least_kind}
 use Rattle.lg_base_tests.proofs.timing.expect_net.Goals as goal
 
 pub value_at-requires-clause-delays : goal.value_at-requires-clause-delays

@@ -4,8 +4,8 @@ use Rattle.lg_timing.specs.Settling.{IsSteady}
 use Rattle.lg_timing.specs.Configuration.{Configuration}
 use Rattle.lg_timing.specs.Staying.{HasStood}
 use Rattle.lg_instants.specs.Plain.{circuit_of}
-use Rattle.lg_base_tests.specs.TimingSamples.{meaning_of}
-use Rattle.lg_base_tests.proofs.SampleLemmas.{steady_kind}
+use Rattle.lg_base_tests.proofs.timing.SampleKinds.{meaning_of}
+use Rattle.lg_base_tests.proofs.timing.SampleKinds.{steady_kind}
 use Rattle.lg_base_tests.proofs.timing.expect_settlings.Goals as goal
 
 pub settle-requires-clause-steady : goal.settle-requires-clause-steady

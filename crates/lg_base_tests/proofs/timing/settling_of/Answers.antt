@@ -2,7 +2,7 @@ use Rattle.std.proofs.Common.{◌≤◌, get_or}
 use Rattle.std.proofs.lemmas.List.Elements.{All-map}
 use Rattle.lg_timing.specs.Circuit.{Part}
 use Rattle.lg_timing.specs.Settling.{IsSteady}
-use Rattle.lg_base_tests.proofs.SampleLemmas.{steady_kind, least_kind}
+use Rattle.lg_base_tests.proofs.timing.SampleKinds.{steady_kind, least_kind}
 use Rattle.lg_base_tests.proofs.timing.settling_of.Goals as goal
 
 pub settle-requires-clause-steady : goal.settle-requires-clause-steady

@@ -1,7 +1,7 @@
 use Rattle.std.proofs.Common.{get_or}
 use Rattle.std.proofs.lemmas.List.Elements.{All-map}
 use Rattle.lg_timing.specs.Settling.{IsSteady}
-use Rattle.lg_base_tests.proofs.SampleLemmas.{steady_kind}
+use Rattle.lg_base_tests.proofs.timing.SampleKinds.{steady_kind}
 use Rattle.lg_base_tests.proofs.timing.table_of.Goals as goal
 
 pub session-requires-clause-steady : goal.session-requires-clause-steady
