@@ -2,8 +2,8 @@
 
 use crate::timing_samples::{Kind, Sample};
 use lg_instants::{
-    Circuit, Nets, Phase, Port, Settling, Stimulus, Table, Words, evaluations_at, is_well_formed,
-    session, settle, stepped_value_at, value_at,
+    Circuit, Configuration, Nets, Phase, Port, Settling, Stimulus, Table, Words, evaluations_at,
+    is_well_formed, session, settle, value_at,
 };
 use lg_value::{Bit, Word};
 use std::alloc::{AllocError, Global};
@@ -103,8 +103,6 @@ fn expect_net(
     for (instant, bit) in want.iter().enumerate() {
         let found = value_at(alloc, circuit, stimuli, instant as u64, net)?;
         assert_eq!(rt; found, *bit, "net {net} at {instant}");
-        let stepped = stepped_value_at(alloc, circuit, stimuli, instant as u64, net)?;
-        assert_eq!(rt; stepped, *bit, "net {net} at {instant}");
     }
     Ok(())
 }
@@ -121,20 +119,49 @@ fn table_of(
     session(alloc, circuit, rows, limit)
 }
 
-// What becomes of a second stimulus of a circuit that is well formed, the first being at 0.
+// What becomes of a second stimulus of a circuit that is well formed, where the first has stood
+// from 0 up to an instant.
 fn settling_of(
     rt: &impl Abort,
     alloc: Global,
     circuit: &Circuit<Sample>,
     bits: (Bit, Bit),
-    from: u64,
+    until: u64,
     limit: u32,
 ) -> Result<Settling, AllocError> {
     assert!(rt; is_well_formed(circuit));
-    let mut put = Vec::new(alloc);
-    put.push(Stimulus::new(0, words(alloc, &[bits.0])?, ZERO))?;
-    put.push(Stimulus::new(from, words(alloc, &[bits.1])?, ZERO))?;
-    settle(alloc, circuit, put.as_slice(), from, limit)
+    let first = Stimulus::new(0, words(alloc, &[bits.0])?, ZERO);
+    let stood = Configuration::at(alloc, circuit, &[first], until)?;
+    let second = Stimulus::new(0, words(alloc, &[bits.1])?, ZERO);
+    let outcome = settle(alloc, circuit, Some(&stood), &second, limit)?;
+    Ok(outcome.settling)
+}
+
+// What becomes of bits that are put one after another, each where the one before has settled.
+fn expect_settlings(
+    rt: &impl Abort,
+    alloc: Global,
+    circuit: &Circuit<Sample>,
+    limit: u32,
+    want: &[(Bit, Settling)],
+) -> Result<(), Fail> {
+    assert!(rt; is_well_formed(circuit));
+    let mut stood = None;
+    for (bit, settling) in want {
+        let put = Stimulus::new(0, words(alloc, &[*bit])?, ZERO);
+        let outcome = settle(alloc, circuit, stood.as_ref(), &put, limit)?;
+        assert_eq!(rt; outcome.settling, *settling);
+        stood = Some(outcome.configuration);
+    }
+    Ok(())
+}
+
+fn settled(took: u64, evaluations: u64) -> Settling {
+    Settling::Settled { took, evaluations }
+}
+
+fn oscillates(busy: u64, evaluations: u64) -> Settling {
+    Settling::Oscillates { busy, evaluations }
 }
 
 // How many parts of a circuit that is well formed have an evaluation at instants 0, 1 and so on.
@@ -193,6 +220,8 @@ fn not_gate_settles_in_one_instant(rt: HostRuntime) -> Result<(), Fail> {
         0,
         &[ZERO, ZERO, ONE, ONE],
     )?;
+    let each = [(ZERO, settled(1, 1)), (ONE, settled(1, 1))];
+    expect_settlings(&rt, alloc, &gate, 1, &each)?;
     let rows = rows(alloc, &[ZERO, ONE])?;
     let lines = [(ONE, 1, None), (ZERO, 1, None)];
     expect_table(&rt, alloc, &gate, rows.as_slice(), 1, &lines, None)?;
@@ -230,15 +259,18 @@ fn change_runs_down_a_chain(rt: HostRuntime) -> Result<(), Fail> {
     expect_net(&rt, alloc, &chain, put.as_slice(), 3, &want[2])?;
     expect_net(&rt, alloc, &chain, put.as_slice(), 4, &want[3])?;
     let lines = [(ZERO, 4, None), (ONE, 4, None)];
-    expect_table(
-        &rt,
-        alloc,
-        &chain,
-        rows(alloc, &[ZERO, ONE])?.as_slice(),
-        4,
-        &lines,
-        None,
-    )
+    let both = rows(alloc, &[ZERO, ONE])?;
+    expect_table(&rt, alloc, &chain, both.as_slice(), 4, &lines, None)?;
+    let stop = Some((1, Phase::Settle));
+    expect_table(&rt, alloc, &chain, both.as_slice(), 3, &[], stop)?;
+    expect_evaluations(&rt, alloc, &chain, put.as_slice(), &[4, 3, 1, 1, 0])?;
+    let each = [
+        (ZERO, settled(4, 9)),
+        (ONE, settled(4, 4)),
+        (ONE, settled(0, 0)),
+    ];
+    expect_settlings(&rt, alloc, &chain, 4, &each)?;
+    expect_settlings(&rt, alloc, &chain, 3, &[(ZERO, oscillates(4, 9))])
 }
 
 #[test]
@@ -265,11 +297,8 @@ fn pulse_shorter_than_a_delay_passes_a_chain(rt: HostRuntime) -> Result<(), Fail
     let lines = [(ONE, 9, None), (ZERO, 9, None)];
     let rows = rows(alloc, &[ZERO, ONE])?;
     expect_table(&rt, alloc, &chain, rows.as_slice(), 3, &lines, None)?;
-    let took = Settling::Settled {
-        took: 9,
-        evaluations: 3,
-    };
-    assert_eq!(rt; settling_of(&rt, alloc, &chain, (ZERO, ONE), 20, 3)?, took);
+    let took = settled(9, 3);
+    assert_eq!(rt; settling_of(&rt, alloc, &chain, (ZERO, ONE), 19, 3)?, took);
     Ok(())
 }
 
@@ -282,11 +311,8 @@ fn change_taken_back_before_it_came_out_comes_out(rt: HostRuntime) -> Result<(),
         UNKNOWN, UNKNOWN, UNKNOWN, UNKNOWN, UNKNOWN, ZERO, ZERO, ZERO, ONE, ZERO,
     ];
     expect_net(&rt, alloc, &line, put.as_slice(), 1, &want)?;
-    let both = Settling::Settled {
-        took: 5,
-        evaluations: 1,
-    };
-    assert_eq!(rt; settling_of(&rt, alloc, &line, (ZERO, ONE), 9, 1)?, both);
+    let both = settled(5, 1);
+    assert_eq!(rt; settling_of(&rt, alloc, &line, (ZERO, ONE), 8, 1)?, both);
     Ok(())
 }
 
@@ -297,11 +323,8 @@ fn nand_loop_toggles_at_each_instant(rt: HostRuntime) -> Result<(), Fail> {
     let put = stimuli(alloc, &[(0, ZERO), (4, ONE)])?;
     let want = [UNKNOWN, ONE, ONE, ONE, ONE, ZERO, ONE, ZERO];
     expect_net(&rt, alloc, &ring, put.as_slice(), 1, &want)?;
-    let past = Settling::Oscillates {
-        busy: 4,
-        evaluations: 4,
-    };
-    assert_eq!(rt; settling_of(&rt, alloc, &ring, (ZERO, ONE), 4, 3)?, past);
+    let past = oscillates(4, 4);
+    assert_eq!(rt; settling_of(&rt, alloc, &ring, (ZERO, ONE), 3, 3)?, past);
     Ok(())
 }
 

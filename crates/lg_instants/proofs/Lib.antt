@@ -1,7 +1,8 @@
 pub mod DriverSteps
 pub mod PartSteps
-pub mod SeenLemmas
-pub mod RunLemmas
-pub mod CountLemmas
-pub mod TableLemmas
 pub mod SteppingLemmas
+pub mod Evaluations
+pub mod Busy
+pub mod Runs
+pub mod Endings
+pub mod Tables

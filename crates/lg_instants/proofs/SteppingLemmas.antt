@@ -1,4 +1,4 @@
--- The program that keeps a configuration alone makes the next one.
+-- The program makes the first configuration and the next one.
 use Rattle.std.proofs.Common.{◌≡◌, ℕ, zero, suc, ◌+◌, ◌-◌, ◌<◌, ◌≤◌, List, [], ◌∷◌, ◌++◌, length, get_or, map, drop, take, inl, inr, sym, refl, ap, ◌∙◌, arith, take_all}
 use Rattle.std.specs.Prelude.{replicate, slice_index_or}
 use Rattle.std.specs.List.{enumerate_from, flat_map}
@@ -12,8 +12,8 @@ use Rattle.lg_value.proofs.DriverLemmas.{joined_in_turn_lem}
 use Rattle.lg_timing.specs.Circuit.{Word, Port, Part, Circuit, Stimulus}
 use Rattle.lg_timing.specs.Instant.{Numbered, numbered_parts, unknown_words, input_words, words_on, bits_on, pulls_of, or_else}
 use Rattle.lg_timing.specs.Configuration.{Configuration, drivers_shown, nets_shown, nets_of, first, due_of, next}
-use Rattle.lg_instants.specs.Plain.{parts_on, bit_from, outputs_after, all_outputs, all_inputs, all_states}
-use Rattle.lg_instants.specs.Stepping.{of_part, first_due, steps_from, dues_from, unknown_dues}
+use Rattle.lg_instants.specs.Plain.{parts_on, bit_from, all_inputs}
+use Rattle.lg_instants.specs.Stepping.{of_part, first_due, starts_from, steps_from, dues_from, unknown_dues}
 use Rattle.lg_instants.proofs.DriverSteps.{words_on-no_word, parts_on-no_word}
 use Rattle.lg_timing.proofs.Numbering.{map_at}
 use Rattle.lg_timing.proofs.ConfigurationSteps.{at-number}
@@ -54,17 +54,30 @@ bit_from-shown c s shown =
     ∙ ap (λ (bit : Bit). or_else bit (joined_in_turn (pulls_of c net))) (joined_in_turn_lem (drivers_shown c s shown net))
     ∙ ap (λ (bit : Bit). or_else (join_of_drivers (drivers_shown c s shown net)) bit) (joined_in_turn_lem (pulls_of c net)))
 
+-- the word on one pin more
+pub words-more : (f : ℕ → Bit) (pins : List (List ℕ)) (i : ℕ) (nets : List ℕ) (words : List Word) → i < length pins → nets ≡ get_or pins i nets → words ≡ map (λ (n : List ℕ). map f n) (take i pins)
+    → words ++ map f nets ∷ [] ≡ map (λ (n : List ℕ). map f n) (take (i + 1) pins)
+words-more f pins i nets words inside is before =
+    ap (λ l. l ++ map f nets ∷ []) before
+    ∙ ap (λ (n : List ℕ). map (λ (m : List ℕ). map f m) (take i pins) ++ map f n ∷ []) is
+    ∙ sym (map_more (λ (n : List ℕ). map f n) pins i nets inside)
+
 -- one part more, of what a number alone decides
-no_part : Part
+pub no_part : Part
 no_part = record { delay = 0; inputs = []; outputs = []; start = []; step = λ state before now. state; out = λ state now. [] }
+
+pub number_at : {P : Type 0} (meaning : P → Part) (xs : List P) (i : ℕ) → i < length xs → (get_or (enumerate_from 0 (map meaning xs)) i (i, no_part)).0 ≡ i
+number_at meaning xs i inside =
+    let parts = map meaning xs in
+    let is = get_or-enumerate_from 0 parts i (i, no_part) (simp length-map inside) in
+    ap (λ (p : Numbered). p.0) is ∙ omega arith
 
 pub by_number_more : {P X : Type 0} (meaning : P → Part) (f : ℕ → X) (xs : List P) (i : ℕ) → i < length xs
     → map (λ (p : Numbered). f p.0) (take (i + 1) (enumerate_from 0 (map meaning xs))) ≡ map (λ (p : Numbered). f p.0) (take i (enumerate_from 0 (map meaning xs))) ++ f i ∷ []
 by_number_more meaning f xs i inside =
     let parts = map meaning xs in
     let there : i < length parts = simp length-map inside in
-    let is = get_or-enumerate_from 0 parts i (i, no_part) there in
-    let number : (get_or (enumerate_from 0 parts) i (i, no_part)).0 ≡ i = ap (λ (p : Numbered). p.0) is ∙ omega arith in
+    let number = number_at meaning xs i inside in
     map_more (λ (p : Numbered). f p.0) (enumerate_from 0 parts) i (i, no_part) (rw (length-enumerate_from 0 parts) there)
     ∙ ap (λ k. map (λ (p : Numbered). f p.0) (take i (enumerate_from 0 parts)) ++ f k ∷ []) number
 
@@ -96,20 +109,19 @@ replicate_less x (suc n) = let same : n ≡ suc n - 1 = omega arith in ap (λ k.
 
 -- the first configuration
 pub first-is : (c : Circuit) (s : Stimulus) (shown now states : List (List Word)) (unknown due : List (List (List Word)))
-    → shown ≡ all_outputs c [] → now ≡ all_inputs c (bit_from c s shown) → states ≡ all_states c [] now
+    → shown ≡ map (λ (p : Numbered). unknown_words p.1.outputs) (numbered_parts c) → now ≡ all_inputs c (bit_from c s shown) → states ≡ map (starts_from now) (numbered_parts c)
     → unknown ≡ map unknown_dues (numbered_parts c) → due ≡ map (dues_from unknown states now) (numbered_parts c)
     → with_lists s shown states due ≡ first c s
-unfolding all_outputs
 first-is c s shown now states unknown due shown_is now_is states_is unknown_is due_is =
     let parts : List Numbered = numbered_parts c in
     let nothing : List (List Word) = map (λ (p : Numbered). unknown_words p.1.outputs) parts in
     let nets : ℕ → Bit = nets_shown c s nothing in
     let read : Numbered → List Word = λ p. input_words nets p.1 in
     let state : Numbered → List Word = λ p. p.1.step p.1.start (unknown_words p.1.inputs) (read p) in
-    let shows : shown ≡ nothing = shown_is ∙ map_at (outputs_after []) (λ (p : Numbered). unknown_words p.1.outputs) parts (λ i d inside. refl) in
+    let shows : shown ≡ nothing = shown_is in
     let reads : now ≡ map read parts = now_is ∙ ap (λ (l : List (List Word)). all_inputs c (bit_from c s l)) shows ∙ ap (all_inputs c) (bit_from-shown c s nothing) in
-    let stands : states ≡ map state parts = states_is ∙ ap (all_states c []) reads
-    ∙ map_at (λ (p : Numbered). p.1.step p.1.start (unknown_words p.1.inputs) (of_part (map read parts) p)) state parts (λ i d inside.
+    let stands : states ≡ map state parts = states_is ∙ ap (λ l. map (starts_from l) parts) reads
+    ∙ map_at (starts_from (map read parts)) state parts (λ i d inside.
     let p : Numbered = get_or parts i d in
     ap (λ (w : List Word). p.1.step p.1.start (unknown_words p.1.inputs) w) (at-number read c [] i d inside)) in
     let owes : due ≡ map (λ (p : Numbered). replicate (p.1.delay - 1) (unknown_words p.1.outputs) ++ p.1.out (state p) (read p) ∷ []) parts = due_is

@@ -1,24 +1,20 @@
 -- What becomes of a row of a session, and what it leaves to the next.
-use Rattle.std.specs.Prelude.{ℕ, ◌+◌, ◌^◌, ◌<◌, List}
-use Rattle.lg_instants.specs.declared.settling.Ending.{Ending}
-use Rattle.lg_instants.specs.declared.settling.Ending.TheVariants.{Settled, Oscillates}
+use Rattle.std.specs.Prelude.{ℕ, List, Option}
+use Rattle.lg_instants.specs.declared.table.Ending.{Ending}
+use Rattle.lg_instants.specs.declared.table.Ending.TheVariants.{Settled, Oscillates}
 use Rattle.lg_instants.specs.declared.table.Row.{Row}
 use Rattle.lg_instants.specs.declared.table.Row.TheVariants.{Done, Stops}
 use Rattle.lg_timing.specs.Circuit.{Word, Circuit, Stimulus}
-use Rattle.lg_timing.specs.Settling.{StayFrom}
-use Rattle.lg_timing.specs.Session.{RowDone, RowStops}
+use Rattle.lg_timing.specs.Configuration.{Configuration}
+use Rattle.lg_timing.specs.Staying.{IsLedTo}
+use Rattle.lg_timing.specs.RowByRow.{SettlesTo, OscillatesOn, RowLeaves, RowStopsOn}
 
--- the next stimulus may stand at the instant after the one where these have settled
-abbrev pub EndingLeaves : List Stimulus → Ending → Type 0
-EndingLeaves after (Settled at) = StayFrom after (at + 1) × (at + 1 < 2 ^ 63)
-EndingLeaves after Oscillates = Unit {0}
+-- a stimulus settles in a configuration on which the next may be put, or it oscillates
+abbrev pub EndsIn : Circuit → ℕ → Option Configuration → Stimulus → Ending → Type 0
+EndsIn c limit stood s (Settled took at) = SettlesTo c limit stood s took at × IsLedTo c at
+EndsIn c limit stood s Oscillates = OscillatesOn c limit stood s
 
--- it gives its line, and these are the stimuli then; or it stops
-abbrev pub RowEnds : Circuit → ℕ → List Stimulus → ℕ → List Word → List Stimulus → Row → Type 0
-RowEnds c limit before from words after (Done line last) = RowDone c limit before from words line after last
-RowEnds c limit before from words after (Stops phase) = RowStops c limit before from words phase
-
--- the next row may stand at the instant after its last
-abbrev pub RowLeaves : List Stimulus → Row → Type 0
-RowLeaves after (Done line last) = StayFrom after (last + 1) × (last + 1 < 2 ^ 63)
-RowLeaves after (Stops phase) = Unit {0}
+-- a row gives its line and leaves a configuration on which the next may be put, or it stops
+abbrev pub RowEnds : Circuit → ℕ → Option Configuration → List Word → Row → Type 0
+RowEnds c limit stood words (Done line last) = RowLeaves c limit stood words line last × IsLedTo c last
+RowEnds c limit stood words (Stops phase) = RowStopsOn c limit stood words phase

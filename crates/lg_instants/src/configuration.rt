@@ -3,12 +3,14 @@
 ghost use Rattle.std.specs.Prelude.{◌≡◌, ◌+◌, ◌^◌, ◌<◌, ◌++◌, ◌∷◌, [], true, IfOk, map, drop, replicate, slice_index_or};
 ghost use Rattle.std.specs.List.{list_all};
 ghost use Rattle.lg_timing.specs.Instant.{Numbered, numbered_parts, unknown_words, value_at};
-ghost use Rattle.lg_timing.specs.Configuration.{configuration_at, first, next, going_on, nets_of, HaveDelays};
+ghost use Rattle.lg_timing.specs.Configuration.{configuration_at, first, next, going_on, nets_of, stimulus_of, HaveDelays};
+ghost use Rattle.lg_timing.specs.RowByRow.{read_on};
 ghost use Rattle.lg_instants.specs.Plain.{IsWellFormed, circuit_of, is_port, all_inputs};
-ghost use Rattle.lg_instants.specs.Stepping.{first_due, steps_from, dues_from, unknown_dues};
+ghost use Rattle.lg_instants.specs.Stepping.{first_due, start_from, starts_from, steps_from, dues_from, unknown_dues};
 
 use crate::drivers::net_bit;
-use crate::history::{all_inputs, all_outputs, all_states, in_force, silence, unknown_words};
+use crate::inputs::{all_inputs, unknown_words, word_on};
+use crate::stimuli::{in_force, silence};
 use crate::words::words_of;
 use crate::{Behaviour, Circuit, Stimulus, Words};
 use lg_value::{Bit, Word};
@@ -77,6 +79,48 @@ fn due_of(list: &[Due], place: usize) -> &[Words]
         Some(due) => due.words(),
         None => &[],
     }
+}
+
+// What each part shows at first: unknown words.
+fn all_unknown<P: Behaviour>(alloc: Global, circuit: &Circuit<P>) -> Result<Vec<Words>, AllocError>
+    requires { IsWellFormed (circuit_of P.meaning circuit.now) }
+    ensures { IfOk result (λ shown. shown.items ≡
+        map (λ (p : Numbered). unknown_words p.1.outputs) (numbered_parts (circuit_of P.meaning circuit.now))) }
+{
+    let parts = circuit.parts.as_slice();
+    let mut shown = Vec::new(alloc);
+    for i in 0..parts.len() {
+        shown.push(Words::new(unknown_words(alloc, parts[i].outputs())?))?;
+    }
+    Ok(shown)
+}
+
+// The state of a part after its first step, to these inputs.
+fn start_of<P: Behaviour>(alloc: Global, part: &P, now: &[Word]) -> Result<Words, AllocError>
+    requires { list_all is_port (P.meaning part.now).inputs ≡ true }
+    ensures { IfOk result (λ state. state ≡ start_from (P.meaning part.now) now.now) }
+{
+    let start = part.start(alloc)?;
+    let before = unknown_words(alloc, part.inputs())?;
+    Ok(Words::new(part.step(alloc, start.as_slice(), before.as_slice(), now)?))
+}
+
+// The same of every part.
+fn all_starts<P: Behaviour>(
+    alloc: Global,
+    circuit: &Circuit<P>,
+    now: &[Words],
+) -> Result<Vec<Words>, AllocError>
+    requires { IsWellFormed (circuit_of P.meaning circuit.now) }
+    ensures { IfOk result (λ states. states.items ≡
+        map (starts_from now.now) (numbered_parts (circuit_of P.meaning circuit.now))) }
+{
+    let parts = circuit.parts.as_slice();
+    let mut states = Vec::new(alloc);
+    for i in 0..parts.len() {
+        states.push(start_of(alloc, &parts[i], words_of(now, i))?)?;
+    }
+    Ok(states)
 }
 
 // What each part shows next: what is due first.
@@ -219,9 +263,9 @@ impl Configuration {
         requires { IsWellFormed (circuit_of P.meaning circuit.now) }
         ensures { IfOk result (λ k. k ≡ first (circuit_of P.meaning circuit.now) stimulus.now) }
     {
-        let shown = all_outputs(alloc, circuit, &[])?;
+        let shown = all_unknown(alloc, circuit)?;
         let now = all_inputs(alloc, circuit, stimulus, shown.as_slice())?;
-        let states = all_states(alloc, circuit, &[], now.as_slice())?;
+        let states = all_starts(alloc, circuit, now.as_slice())?;
         let unknown = all_unknown_due(alloc, circuit)?;
         let due = all_due(
             alloc,
@@ -255,6 +299,44 @@ impl Configuration {
         let due = self.due.as_slice();
         let due = all_due(alloc, circuit, due, states.as_slice(), now.as_slice())?;
         Ok(Configuration::new(stimulus.copy(alloc)?, states, shown, due))
+    }
+
+    /// The next configuration while its stimulus stays.
+    ///
+    /// # Errors
+    ///
+    /// There was no memory.
+    pub fn stay<P: Behaviour>(
+        &self,
+        alloc: Global,
+        circuit: &Circuit<P>,
+    ) -> Result<Configuration, AllocError>
+        requires { IsWellFormed (circuit_of P.meaning circuit.now) }
+        ensures { IfOk result (λ k. k ≡ next (circuit_of P.meaning circuit.now) (stimulus_of self.now) self.now) }
+    {
+        self.next(alloc, circuit, &self.stimulus)
+    }
+
+    /// The words of the output pins.
+    ///
+    /// # Errors
+    ///
+    /// There was no memory.
+    pub fn read<P: Behaviour>(
+        &self,
+        alloc: Global,
+        circuit: &Circuit<P>,
+    ) -> Result<Words, AllocError>
+        requires { IsWellFormed (circuit_of P.meaning circuit.now) }
+        ensures { IfOk result (λ words. words ≡ read_on (circuit_of P.meaning circuit.now) self.now) }
+    {
+        let pins = circuit.outputs.as_slice();
+        let mut words = Vec::new(alloc);
+        for nets in pins {
+            let shown = self.shown.as_slice();
+            words.push(word_on(circuit, &self.stimulus, shown, nets.nets()))?;
+        }
+        Ok(Words::new(words))
     }
 
     /// The value of a net.
@@ -331,12 +413,12 @@ impl Configuration {
     }
 }
 
-/// The value of a net at an instant, by a configuration alone: it is that of `value_at`.
+/// The value of a net at an instant.
 ///
 /// # Errors
 ///
 /// There was no memory.
-pub fn stepped_value_at<P: Behaviour>(
+pub fn value_at<P: Behaviour>(
     alloc: Global,
     circuit: &Circuit<P>,
     stimuli: &[Stimulus],

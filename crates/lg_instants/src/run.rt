@@ -1,27 +1,58 @@
-//! A stimulus settles, by a configuration alone, and its evaluations are counted.
+//! A stimulus settles or oscillates, and its evaluations are counted.
 
-ghost use Rattle.std.specs.Prelude.{◌≡◌, ◌+◌, ◌^◌, ◌<◌, ◌≤◌, ℕ, IfOk, OnOk, length, All};
-ghost use Rattle.lg_timing.specs.Instant.{in_force};
-ghost use Rattle.lg_timing.specs.Settling.{IsSteady, StayFrom};
-ghost use Rattle.lg_timing.specs.Configuration.{HaveDelays};
-ghost use Rattle.lg_timing.specs.Evaluation.{evaluations_at, evaluations_between, IsSettling};
-ghost use Rattle.lg_instants.specs.Plain.{IsWellFormed, circuit_of, SearchEnds};
-ghost use Rattle.lg_instants.specs.Stepping.{differing, IsRun, RunSteps};
+ghost use Rattle.std.specs.Prelude.{◌≡◌, ◌+◌, ◌^◌, ◌<◌, ℕ, IfOk, length, map, All, option_copied};
+ghost use Rattle.lg_timing.specs.Settling.{IsSteady};
+ghost use Rattle.lg_timing.specs.Configuration.{staying, HaveDelays};
+ghost use Rattle.lg_timing.specs.Evaluation.{evaluations_at, evaluations_between};
+ghost use Rattle.lg_timing.specs.Staying.{is_busy_between, configuration_put, IsSettlingOn, IsLedTo, HasStood};
+ghost use Rattle.lg_instants.specs.Plain.{IsWellFormed, circuit_of, greatest_delay};
+ghost use Rattle.lg_instants.specs.Stepping.{differing, instants_of, IsRun, RunSteps, RunFinds};
 
-use crate::history::{in_force, silence};
-use crate::settling::{differ, greatest_delay};
+use crate::words::words_of;
 use crate::{Behaviour, Circuit, Configuration, Stimulus, Words};
 use lg_timing::Settling;
 use std::alloc::{AllocError, Global};
 
+/// What becomes of a stimulus, and where that shows.
+#[derive(Debug, Drop)]
+pub struct Outcome {
+    /// Whether it settles, in how many instants, and with how many evaluations.
+    pub settling: Settling,
+    /// The configuration where it has settled, or at the busy instant past the limit.
+    pub configuration: Configuration,
+}
+
 // A run from a stimulus on: how many instants it took, and the evaluations before the one where it
-// stands, and at it.
+// stands, and with those there.
 #[derive(Debug, Drop)]
 struct Run {
     configuration: Configuration,
     took: u64,
     before: u64,
-    at: u64,
+    evaluations: u64,
+}
+
+/// The greatest delay of some parts.
+fn greatest_delay<P: Behaviour>(parts: &[P]) -> u32
+    ensures { result ≡ greatest_delay (map P.meaning parts.now) }
+{
+    let mut greatest = 0;
+    for part in parts {
+        greatest = greatest.max(part.delay());
+    }
+    greatest
+}
+
+// Whether some part shows another word than in the configuration before.
+fn is_busy<P: Behaviour>(circuit: &Circuit<P>, before: &Configuration, now: &Configuration) -> bool
+    ensures { result ≡ is_busy_between (circuit_of P.meaning circuit.now) before.now now.now }
+{
+    for i in 0..circuit.parts.len() {
+        if words_of(before.shown(), i) != words_of(now.shown(), i) {
+            return true;
+        }
+    }
+    false
 }
 
 // How many words differ from those before.
@@ -80,81 +111,81 @@ pub fn evaluations_at<P: Behaviour>(
     evaluations(alloc, circuit, &before, &now)
 }
 
-// A run that begins where a stimulus stands.
+// A run that begins with a stimulus that is put on what stood.
 fn begin<P: Behaviour>(
     alloc: Global,
     circuit: &Circuit<P>,
-    stimuli: &[Stimulus],
-    start: u64,
+    stood: Option<&Configuration>,
+    stimulus: &Stimulus,
 ) -> Result<Run, AllocError>
-    requires well_formed { IsWellFormed (circuit_of P.meaning circuit.now) }
-    requires delays { HaveDelays (circuit_of P.meaning circuit.now) }
-    ensures is { IfOk result (λ run. IsRun (circuit_of P.meaning circuit.now) stimuli.now start run) }
+    requires { IsWellFormed (circuit_of P.meaning circuit.now) }
+    ensures is { IfOk result
+        (λ run. IsRun (circuit_of P.meaning circuit.now) (option_copied stood.entry) stimulus.now run) }
     ensures none { IfOk result (λ run. run.took ≡ 0) }
 {
-    Ok(Run {
-        configuration: Configuration::at(alloc, circuit, stimuli, start)?,
-        took: 0,
-        before: 0,
-        at: evaluations_at(alloc, circuit, stimuli, start)? as u64,
-    })
+    match stood {
+        None => Ok(Run {
+            configuration: Configuration::first(alloc, circuit, stimulus)?,
+            took: 0,
+            before: 0,
+            evaluations: circuit.parts.len() as u64,
+        }),
+        Some(stood) => {
+            let configuration = stood.next(alloc, circuit, stimulus)?;
+            let own = evaluations(alloc, circuit, stood, &configuration)?;
+            Ok(Run {
+                configuration,
+                took: 0,
+                before: 0,
+                evaluations: own as u64,
+            })
+        }
+    }
 }
 
 // Goes on by one instant, and tells whether that is busy.
 fn step<P: Behaviour>(
     alloc: Global,
     circuit: &Circuit<P>,
-    stimulus: &Stimulus,
     run: &mut Run,
 ) -> Result<bool, AllocError>
     requires well_formed { IsWellFormed (circuit_of P.meaning circuit.now) }
     requires early { run.old.took + 1 < 2 ^ 64 }
-    ensures { IfOk result (λ busy.
-        RunSteps (circuit_of P.meaning circuit.now) stimulus.now run.old run.new busy) }
+    ensures { IfOk result (λ busy. RunSteps (circuit_of P.meaning circuit.now) run.old run.new busy) }
 {
-    let next = run.configuration.next(alloc, circuit, stimulus)?;
-    let busy = differ(run.configuration.shown(), next.shown());
-    let at = evaluations(alloc, circuit, &run.configuration, &next)?;
+    let next = run.configuration.stay(alloc, circuit)?;
+    let busy = is_busy(circuit, &run.configuration, &next);
+    let more = evaluations(alloc, circuit, &run.configuration, &next)?;
     *run = Run {
         configuration: next,
         took: run.took + 1,
-        before: run.before.saturating_add(run.at),
-        at: at as u64,
+        before: run.evaluations,
+        evaluations: run.evaluations.saturating_add(more as u64),
     };
     Ok(busy)
 }
 
-// Goes on to the next busy instant, or to where none can come any more.
+// Goes on to the next busy instant, or as far as asked for.
 fn next_busy<P: Behaviour>(
     alloc: Global,
     circuit: &Circuit<P>,
-    stimuli: &[Stimulus],
-    start: u64,
     run: &mut Run,
     reach: u32,
 ) -> Result<bool, AllocError>
     requires well_formed { IsWellFormed (circuit_of P.meaning circuit.now) }
-    requires delays { HaveDelays (circuit_of P.meaning circuit.now) }
-    requires stay { StayFrom stimuli.now start }
     requires early { run.old.took + reach < 2 ^ 64 }
-    requires is { IsRun (circuit_of P.meaning circuit.now) stimuli.now start run.old }
-    ensures is { OnOk result (IsRun (circuit_of P.meaning circuit.now) stimuli.now start run.new) }
-    ensures on { OnOk result (run.old.took ≤ run.new.took) }
-    ensures few { OnOk result (run.new.took ≤ run.old.took + reach) }
-    ensures found { IfOk result (λ found. SearchEnds (circuit_of P.meaning circuit.now) stimuli.now
-        (start + run.old.took + 1) reach (start + run.new.took + 1) found) }
+    ensures { IfOk result
+        (λ found. RunFinds (circuit_of P.meaning circuit.now) run.old run.new reach found) }
 {
-    let silent = silence(alloc);
-    let stimulus = in_force(&silent, stimuli, start);
     for _ in 0..reach {
-        if step(alloc, circuit, stimulus, run)? {
+        if step(alloc, circuit, run)? {
             return Ok(true);
         }
     }
     Ok(false)
 }
 
-/// What becomes of the last stimulus, which stands at `start`, by a configuration alone.
+/// What becomes of a stimulus that is put on what stood, or as the first one where nothing did.
 ///
 /// # Errors
 ///
@@ -162,30 +193,41 @@ fn next_busy<P: Behaviour>(
 pub fn settle<P: Behaviour>(
     alloc: Global,
     circuit: &Circuit<P>,
-    stimuli: &[Stimulus],
-    start: u64,
+    stood: Option<&Configuration>,
+    stimulus: &Stimulus,
     limit: u32,
-) -> Result<Settling, AllocError>
+) -> Result<Outcome, AllocError>
     requires well_formed { IsWellFormed (circuit_of P.meaning circuit.now) }
     requires steady { (greatest : ℕ) × All (IsSteady greatest) (circuit_of P.meaning circuit.now).parts }
-    requires stay { StayFrom stimuli.now start }
-    ensures { IfOk result (λ settling.
-        IsSettling (circuit_of P.meaning circuit.now) stimuli.now start limit settling) }
+    requires stood { HasStood (circuit_of P.meaning circuit.now) (option_copied stood) }
+    ensures settling { IfOk result (λ outcome. IsSettlingOn (circuit_of P.meaning circuit.now)
+        (option_copied stood.entry) stimulus.now limit outcome.settling) }
+    ensures configuration { IfOk result (λ outcome. outcome.configuration ≡ staying (circuit_of P.meaning circuit.now)
+        (configuration_put (circuit_of P.meaning circuit.now) (option_copied stood.entry) stimulus.now)
+        (instants_of outcome.settling)) }
+    // So the next stimulus may be put on it.
+    ensures led { IfOk result (λ outcome. IsLedTo (circuit_of P.meaning circuit.now) outcome.configuration) }
 {
     let reach = greatest_delay(circuit.parts.as_slice());
-    let mut run = begin(alloc, circuit, stimuli, start)?;
+    let mut run = begin(alloc, circuit, stood, stimulus)?;
     let mut last = 0;
     for _ in 0..u64::from(limit) + 1 {
-        if !next_busy(alloc, circuit, stimuli, start, &mut run, reach)? {
-            return Ok(Settling::Settled {
-                took: last,
-                evaluations: run.before.saturating_add(run.at),
+        if !next_busy(alloc, circuit, &mut run, reach)? {
+            return Ok(Outcome {
+                settling: Settling::Settled {
+                    took: last,
+                    evaluations: run.evaluations,
+                },
+                configuration: run.configuration,
             });
         }
         last = run.took;
     }
-    Ok(Settling::Oscillates {
-        busy: last,
-        evaluations: run.before,
+    Ok(Outcome {
+        settling: Settling::Oscillates {
+            busy: last,
+            evaluations: run.before,
+        },
+        configuration: run.configuration,
     })
 }

@@ -1,16 +1,17 @@
 //! The session table of some rows.
 
-ghost use Rattle.std.specs.Prelude.{◌≡◌, ◌^◌, ◌<◌, ◌++◌, ◌∷◌, [], ℕ, IfOk, OnOk, map, All};
-ghost use Rattle.lg_timing.specs.Settling.{IsSteady, StayFrom};
-ghost use Rattle.lg_timing.specs.Session.{stimulus, IsTable};
-ghost use Rattle.lg_instants.specs.Plain.{IsWellFormed, circuit_of, IsEnding};
-ghost use Rattle.lg_instants.specs.Rows.{EndingLeaves, RowEnds, RowLeaves};
+ghost use Rattle.std.specs.Prelude.{◌≡◌, ℕ, IfOk, All, option_copied};
+ghost use Rattle.lg_timing.specs.Settling.{IsSteady};
+ghost use Rattle.lg_timing.specs.Session.{stimulus};
+ghost use Rattle.lg_timing.specs.Staying.{HasStood};
+ghost use Rattle.lg_timing.specs.RowByRow.{IsTableOn};
+ghost use Rattle.lg_instants.specs.Plain.{IsWellFormed, circuit_of};
+ghost use Rattle.lg_instants.specs.Rows.{EndsIn, RowEnds};
 
-use crate::settling::{Ending, ending_of};
-use crate::value::read_at;
-use crate::{Behaviour, Circuit, Stimulus, Words};
-use lg_timing::Phase;
-use lg_value::{Bit, Word};
+use crate::run::settle;
+use crate::{Behaviour, Circuit, Configuration, Stimulus, Words};
+use lg_timing::{Phase, Settling};
+use lg_value::Bit;
 use std::alloc::{AllocError, Global};
 use std::marker::Model;
 
@@ -80,72 +81,75 @@ impl Model for Table {
     ghost view = { λ t. record { lines = t.lines.items; stop = t.stop } };
 }
 
-// What becomes of a row: its line and the instant where it settled, or the phase where it stops.
+// What becomes of a stimulus: it settles after so many instants in a configuration, or oscillates.
+#[derive(Debug, Drop)]
+enum Ending {
+    Settled(u64, Configuration),
+    Oscillates,
+}
+
+// What becomes of a row: its line and the configuration where it settled, or the phase where it
+// stops.
 #[derive(Debug, Drop)]
 enum Row {
-    Done(Line, u64),
+    Done(Line, Configuration),
     Stops(Phase),
 }
 
-// Puts words and a clock bit on the pins from an instant on.
+// Puts words and a clock bit on the pins.
 fn put<P: Behaviour>(
     alloc: Global,
     circuit: &Circuit<P>,
-    stimuli: &mut Vec<Stimulus>,
-    from: u64,
+    stood: Option<&Configuration>,
     words: &Words,
     clock: Bit,
     limit: u32,
 ) -> Result<Ending, AllocError>
     requires well_formed { IsWellFormed (circuit_of P.meaning circuit.now) }
     requires steady { (greatest : ℕ) × All (IsSteady greatest) (circuit_of P.meaning circuit.now).parts }
-    requires stay { StayFrom stimuli.old.items from }
-    ensures pushed { OnOk result
-        (stimuli.new.items ≡ stimuli.old.items ++ stimulus from words.now clock ∷ []) }
-    ensures is { IfOk result (λ ending. IsEnding (circuit_of P.meaning circuit.now)
-        (stimuli.old.items ++ stimulus from words.now clock ∷ []) from limit ending) }
-    ensures leaves { IfOk result (λ ending. EndingLeaves stimuli.new.items ending) }
+    requires stood { HasStood (circuit_of P.meaning circuit.now) (option_copied stood) }
+    ensures { IfOk result (λ ending. EndsIn (circuit_of P.meaning circuit.now) limit
+        (option_copied stood.entry) (stimulus 0 words.now clock) ending) }
 {
-    let copy = Words::copy_of(alloc, words.words())?;
-    stimuli.push(Stimulus::new(from, copy, clock))?;
-    ending_of(alloc, circuit, stimuli.as_slice(), from, limit)
+    let stimulus = Stimulus::new(0, Words::copy_of(alloc, words.words())?, clock);
+    let outcome = settle(alloc, circuit, stood, &stimulus, limit)?;
+    Ok(match outcome.settling {
+        Settling::Settled { took, .. } => Ending::Settled(took, outcome.configuration),
+        Settling::Oscillates { .. } => Ending::Oscillates,
+    })
 }
 
-// What becomes of a row whose words are put on the pins at an instant.
+// What becomes of a row whose words are put on what stood.
 fn row_of<P: Behaviour>(
     alloc: Global,
     circuit: &Circuit<P>,
-    stimuli: &mut Vec<Stimulus>,
-    from: u64,
+    stood: Option<&Configuration>,
     words: &Words,
     limit: u32,
 ) -> Result<Row, AllocError>
     requires well_formed { IsWellFormed (circuit_of P.meaning circuit.now) }
     requires steady { (greatest : ℕ) × All (IsSteady greatest) (circuit_of P.meaning circuit.now).parts }
-    requires stay { StayFrom stimuli.old.items from }
-    ensures ends { IfOk result (λ row. RowEnds (circuit_of P.meaning circuit.now) limit
-        stimuli.old.items from words.now stimuli.new.items row) }
-    ensures leaves { IfOk result (λ row. RowLeaves stimuli.new.items row) }
+    requires stood { HasStood (circuit_of P.meaning circuit.now) (option_copied stood) }
+    ensures { IfOk result (λ row. RowEnds (circuit_of P.meaning circuit.now) limit
+        (option_copied stood.entry) words.now row) }
 {
-    let settled = match put(alloc, circuit, stimuli, from, words, Bit::Zero, limit)? {
+    let (settle, settled) = match put(alloc, circuit, stood, words, Bit::Zero, limit)? {
         Ending::Oscillates => return Ok(Row::Stops(Phase::Settle)),
-        Ending::Settled(at) => at,
+        Ending::Settled(took, at) => (took, at),
     };
-    let outputs = Words::new(read_at(alloc, circuit, stimuli.as_slice(), settled)?);
-    let settle = settled - from;
+    let outputs = settled.read(alloc, circuit)?;
     if circuit.clocks.nets().is_empty() {
         return Ok(Row::Done(Line::new(outputs, settle, None), settled));
     }
-    let risen = match put(alloc, circuit, stimuli, settled + 1, words, Bit::One, limit)? {
+    let (rise, risen) = match put(alloc, circuit, Some(&settled), words, Bit::One, limit)? {
         Ending::Oscillates => return Ok(Row::Stops(Phase::Rise)),
-        Ending::Settled(at) => at,
+        Ending::Settled(took, at) => (took, at),
     };
-    let fallen = match put(alloc, circuit, stimuli, risen + 1, words, Bit::Zero, limit)? {
+    let (fall, fallen) = match put(alloc, circuit, Some(&risen), words, Bit::Zero, limit)? {
         Ending::Oscillates => return Ok(Row::Stops(Phase::Fall)),
-        Ending::Settled(at) => at,
+        Ending::Settled(took, at) => (took, at),
     };
-    let tick = Some((risen - (settled + 1), fallen - (risen + 1)));
-    Ok(Row::Done(Line::new(outputs, settle, tick), fallen))
+    Ok(Row::Done(Line::new(outputs, settle, Some((rise, fall))), fallen))
 }
 
 /// The session table of some rows.
@@ -162,16 +166,15 @@ pub fn session<P: Behaviour>(
     requires well_formed { IsWellFormed (circuit_of P.meaning circuit.now) }
     requires steady { (greatest : ℕ) × All (IsSteady greatest) (circuit_of P.meaning circuit.now).parts }
     ensures { IfOk result (λ table.
-        IsTable (circuit_of P.meaning circuit.now) limit rows.now table) }
+        IsTableOn (circuit_of P.meaning circuit.now) limit rows.now table) }
 {
-    let mut stimuli = Vec::new(alloc);
+    let mut stood = None;
     let mut lines = Vec::new(alloc);
-    let mut from = 0;
     for (i, words) in rows.iter().enumerate() {
-        match row_of(alloc, circuit, &mut stimuli, from, words, limit)? {
+        match row_of(alloc, circuit, stood.as_ref(), words, limit)? {
             Row::Done(line, last) => {
                 lines.push(line)?;
-                from = last + 1;
+                stood = Some(last);
             }
             Row::Stops(phase) => {
                 let stop = Some(Stop {

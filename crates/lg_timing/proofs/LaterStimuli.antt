@@ -72,3 +72,11 @@ configuration_at-later c stimuli later t stand =
     ∙ ap (λ (i : Instant). made_from c (in_force stimuli t) i (timeline c was t) (timeline c was (suc t))) (instant_at-later c stimuli later t stand)
     ∙ ap (λ (past : List Instant). made_from c (in_force stimuli t) (instant_at c stimuli t) past (timeline c was (suc t))) (timeline-later c stimuli later t t stand (omega arith))
     ∙ ap (λ (now : List Instant). made_from c (in_force stimuli t) (instant_at c stimuli t) (timeline c stimuli t) now) (timeline-later c stimuli later t (suc t) stand (omega arith))
+
+-- where the same stimuli are in force up to an instant, its configuration is the same
+pub configuration_at-alike : (c : Circuit) (a b : List Stimulus) (t : ℕ) → ((u : ℕ) → u ≤ t → in_force a u ≡ in_force b u) → configuration_at c a t ≡ configuration_at c b t
+unfolding timeline
+configuration_at-alike c a b t same =
+    let past = timeline-alike c a b t (λ u before. same u (omega (arith, before))) in
+    ap (λ (s : Stimulus). made_from c s (next c s (timeline c a t)) (timeline c a t) (next c s (timeline c a t) ∷ timeline c a t)) (same t (omega arith))
+    ∙ ap (λ (l : List Instant). made_from c (in_force b t) (next c (in_force b t) l) l (next c (in_force b t) l ∷ l)) past

@@ -13,4 +13,10 @@ pub mod Shift
 pub mod Rest
 pub mod Still
 pub mod Evaluated
+pub mod OnConfigurations
+pub mod Put
+pub mod LedTo
+pub mod OneWay
+pub mod StayingOn
+pub mod RowsOn
 pub mod NotTimeline

@@ -67,7 +67,7 @@ pub due_of-is : (c : Circuit) (stimuli : List Stimulus) (t i : ℕ) (d : Numbere
     → due_of (configuration_at c stimuli t) (get_or (numbered_parts c) i d) ≡ due_words (timeline c stimuli (suc t)) (get_or (numbered_parts c) i d) (get_or (numbered_parts c) i d).1.delay
 due_of-is c stimuli t i d inside = at-number (λ (p : Numbered). due_words (timeline c stimuli (suc t)) p p.1.delay) c [] i d inside
 
-still_when_quiet : (c : Circuit) (stimuli : List Stimulus) (t : ℕ) → QuietAfter c stimuli t → IsStill c (configuration_at c stimuli t)
+pub still_when_quiet : (c : Circuit) (stimuli : List Stimulus) (t : ℕ) → QuietAfter c stimuli t → IsStill c (configuration_at c stimuli t)
 still_when_quiet c stimuli t quiet i d inside =
     let p : Numbered = get_or (numbered_parts c) i d in
     let same = due_same c stimuli t p (λ u begun. shown_from c stimuli t quiet u begun i d inside) p.1.delay (omega arith) in

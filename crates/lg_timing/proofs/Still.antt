@@ -77,7 +77,7 @@ next-still greatest c stimuli t steady still =
     ∙ ap (λ l. made (instant_at c stimuli t) l (map (λ (p : Numbered). due_words (instant_at c stimuli t ∷ past) p p.1.delay) (numbered_parts c))) shown
     ∙ ap (made (instant_at c stimuli t) (map (outputs_at c stimuli t) (numbered_parts c))) due
 
-staying-still : (greatest : ℕ) (c : Circuit) (stimuli : List Stimulus) (t : ℕ) → All (IsSteady greatest) c.parts → IsStill c (configuration_at c stimuli t)
+pub staying-still : (greatest : ℕ) (c : Circuit) (stimuli : List Stimulus) (t : ℕ) → All (IsSteady greatest) c.parts → IsStill c (configuration_at c stimuli t)
     → (n : ℕ) → staying c (configuration_at c stimuli t) n ≡ configuration_at c stimuli t
 unfolding staying
 staying-still greatest c stimuli t steady still zero = refl

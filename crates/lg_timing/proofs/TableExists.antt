@@ -10,7 +10,7 @@ use Rattle.lg_timing.specs.Session.{Line, Stop, Table, read_at, set_at, rise_at,
 use Rattle.lg_timing.proofs.Outcome.{settles_or_oscillates}
 use Rattle.lg_timing.proofs.Rest.{stay_later}
 
-stay_more : (before : List Stimulus) (s : Stimulus) → StayFrom before s.from → StayFrom (before ++ s ∷ []) s.from
+pub stay_more : (before : List Stimulus) (s : Stimulus) → StayFrom before s.from → StayFrom (before ++ s ∷ []) s.from
 stay_more before s stay =
     let stands : Stimulus → Type 0 = λ (other : Stimulus). other.from ≤ s.from in
     All-append stands before (s ∷ []) stay (All-cons stands s [] (omega arith) (All-nil stands))

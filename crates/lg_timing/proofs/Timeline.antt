@@ -18,7 +18,7 @@ slice_get-timeline c stimuli zero (suc n) m e =
 slice_get-timeline c stimuli (suc k) (suc n) m e = slice_get-timeline c stimuli k n m (omega (arith, e))
 
 -- the stimulus in force, from one that was in force before
-abbrev in_force_from : Stimulus → List Stimulus → ℕ → Stimulus
+abbrev pub in_force_from : Stimulus → List Stimulus → ℕ → Stimulus
 in_force_from before stimuli t = fold (λ (s later : Stimulus). cond (nat_le later.from t) later s) before stimuli
 
 in_force_from-stays : (before : Stimulus) (stimuli : List Stimulus) (start t : ℕ) → AllByRecursion (λ (s : Stimulus). s.from ≤ start) stimuli → start ≤ t → in_force_from before stimuli t ≡ in_force_from before stimuli start

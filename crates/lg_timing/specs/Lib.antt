@@ -3,6 +3,8 @@ pub mod Instant
 pub mod Settling
 pub mod Configuration
 pub mod Evaluation
+pub mod Staying
 pub mod Session
+pub mod RowByRow
 pub mod Samples
 pub mod NotGate

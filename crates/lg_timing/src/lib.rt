@@ -4,6 +4,7 @@
 mod law;
 mod phase;
 mod settling;
+mod staying_law;
 
 pub use law::{
     configurations_go_on, evaluations_are_counted, later_stimuli_change_nothing,
@@ -11,3 +12,8 @@ pub use law::{
 };
 pub use phase::Phase;
 pub use settling::Settling;
+pub use staying_law::{
+    configurations_settle_or_oscillate, configurations_tell_settling,
+    later_configurations_tell_the_same, rows_go_from_one_configuration_to_the_next,
+    stimuli_are_put_on_what_stood, stimuli_lead_on,
+};

@@ -1,5 +1,5 @@
 use Rattle.std.proofs.Common.{drop, arith}
-use Rattle.lg_instants.proofs.CountLemmas.{differing-past}
+use Rattle.lg_instants.proofs.Evaluations.{differing-past}
 use Rattle.lg_instants.proofs.run.differing.Goals as goal
 
 pub returns-then-i-now : goal.returns-then-i-now

@@ -2,7 +2,7 @@ use Rattle.std.proofs.Common.{List, ap, ◌∙◌}
 use Rattle.lg_timing.specs.Circuit.{Word}
 use Rattle.lg_instants.specs.Plain.{circuit_of}
 use Rattle.lg_instants.specs.Stepping.{differing}
-use Rattle.lg_instants.proofs.CountLemmas.{differing-inputs}
+use Rattle.lg_instants.proofs.Evaluations.{differing-inputs}
 use Rattle.lg_instants.proofs.run.evaluations.Goals as goal
 
 pub returns : goal.returns

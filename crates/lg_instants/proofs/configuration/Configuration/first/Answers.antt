@@ -1,8 +1,8 @@
-use Rattle.std.proofs.Common.{List, [], map, ap, ◌∙◌}
+use Rattle.std.proofs.Common.{List, map, ap, ◌∙◌}
 use Rattle.lg_timing.specs.Circuit.{Word, Stimulus}
 use Rattle.lg_timing.specs.Instant.{numbered_parts}
-use Rattle.lg_instants.specs.Plain.{circuit_of, bit_from, all_inputs, all_states}
-use Rattle.lg_instants.specs.Stepping.{dues_from}
+use Rattle.lg_instants.specs.Plain.{circuit_of, bit_from, all_inputs}
+use Rattle.lg_instants.specs.Stepping.{starts_from, dues_from}
 use Rattle.lg_instants.proofs.SteppingLemmas.{with_lists, first-is}
 use Rattle.lg_instants.proofs.configuration.Configuration.first.Goals as goal
 
@@ -20,7 +20,7 @@ returns g c =
     ∙ first-is circuit stimulus shown now states unknown c.in_ok-due.due.items
     c.in_ok-shown.ensures
     (c.in_ok-now.ensures ∙ ap (λ (l : List (List Word)). all_inputs circuit (bit_from circuit stimulus l)) c.as_slice.ensures.value)
-    (c.in_ok-states.ensures ∙ ap (all_states circuit []) c.as_slice-2.ensures.value)
+    (c.in_ok-states.ensures ∙ ap (λ (l : List (List Word)). map (starts_from l) parts) c.as_slice-2.ensures.value)
     c.in_ok-unknown.ensures
     (c.in_ok-due.ensures
     ∙ ap (λ (l : List (List (List Word))). map (dues_from l c.as_slice-4.result.now c.as_slice-5.result.now) parts) c.as_slice-3.ensures.value

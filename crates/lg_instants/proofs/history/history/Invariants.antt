@@ -1,9 +1,0 @@
-use Rattle.std.proofs.Common.{◌≡◌, vec_len}
-use Rattle.lg_instants.specs.Plain.{circuit_of, history}
-use Rattle.lg_instants.proofs.history.history.Given as goal
-
-abbrev pub invariant-loop : goal.invariant-loop
-invariant-loop g l = record {
-  instants : l.past.items ≡ history (circuit_of g.P.Behaviour.meaning l.circuit) l.stimuli (vec_len l.past);
-  long : vec_len l.past ≡ l.counter;
-}

@@ -1,7 +1,0 @@
-use Rattle.std.proofs.Common.{◌≡◌, ℕ, List, map, take}
-use Rattle.lg_instants.specs.Plain.{circuit_of, bit_from}
-use Rattle.lg_instants.proofs.value.read_at.Given as goal
-
-abbrev pub invariant-loop-nets : goal.invariant-loop-nets
-invariant-loop-nets g l =
-    l.words.items ≡ map (λ (nets : List ℕ). map (bit_from (circuit_of g.P.Behaviour.meaning l.circuit) l.stimulus l.outputs.items) nets) (take l.nets-index l.pins)
