@@ -1,9 +1,12 @@
 -- The words of the command line, and what they ask for.
-use Rattle.std.specs.Prelude.{ℕ, ◌==◌, Bool, false, ◌&&◌, not, List, [], ◌∷◌, map, Option, Some, None, if◌then◌else◌, codes, String, string_bytes}
+use Rattle.std.specs.Prelude.{ℕ, ◌==◌, Bool, false, not, List, [], ◌∷◌, map, Option, Some, None, option_and_then, if◌then◌else◌, codes, String, string_bytes}
+use Rattle.std.specs.List.{list_all}
 use Rattle.std.specs.declared.alloc.Global.{Global}
 use Rattle.std.specs.Str.{bytes_eq}
 use Rattle.lg_run.specs.declared.words.Asked.{Asked}
 use Rattle.lg_run.specs.declared.words.Asked.TheVariants as asked
+use Rattle.lg_run.specs.declared.words.Verb.{Verb}
+use Rattle.lg_run.specs.declared.words.Verb.TheVariants as verb
 
 -- the words as their bytes
 abbrev pub words_of : List (String Global) → List (List ℕ)
@@ -21,12 +24,20 @@ abbrev pub is_positional : List ℕ → Bool
 is_positional [] = false
 is_positional (c ∷ cs) = not (c == 45)
 
+-- the verb of a word
+abbrev pub verb_of : List ℕ → Option Verb
+verb_of word = if bytes_eq word (codes "export") then Some verb.Export else (if bytes_eq word (codes "vrun") then Some verb.Vrun else None)
+
+-- the command of a verb on so many files, and none for more or fewer than it has
+abbrev pub command_on : Verb → List (List ℕ) → Option Command
+command_on verb.Export (file ∷ []) = Some (Export file)
+command_on verb.Vrun (of_module ∷ of_rows ∷ []) = Some (Vrun of_module of_rows)
+command_on _ _ = None
+
 -- the command of a verb and its positionals, and none for other words
 abbrev pub command_of : List (List ℕ) → Option Command
-command_of (verb ∷ file ∷ []) = if bytes_eq verb (codes "export") && is_positional file then Some (Export file) else None
-command_of (verb ∷ of_module ∷ of_rows ∷ []) =
-    if bytes_eq verb (codes "vrun") && (is_positional of_module && is_positional of_rows) then Some (Vrun of_module of_rows) else None
-command_of _ = None
+command_of [] = None
+command_of (word ∷ files) = if list_all is_positional files then option_and_then (verb_of word) (λ verb. command_on verb files) else None
 
 -- the command that was read, where there is one
 abbrev pub command : Asked → Command
