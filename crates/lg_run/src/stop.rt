@@ -1,6 +1,6 @@
 //! Why a run stops before its end, and the line that says so.
 
-ghost use Rattle.std.specs.Prelude.{◌≡◌, ◌×◌};
+ghost use Rattle.std.specs.Prelude.{◌≡◌};
 ghost use Rattle.lg_io.specs.Sink.{Said, Wrote};
 ghost use Rattle.lg_run.specs.Lines.{status_of, line_of};
 ghost use Rattle.lg_run.specs.Stops.{file_stop, circ_stop, early_stop, not_accepted_stop, module_stop, vector_stop, rows_stop};
