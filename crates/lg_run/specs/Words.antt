@@ -37,7 +37,7 @@ command_on _ _ = None
 -- the command of a verb and its positionals, and none for other words
 abbrev pub command_of : List (List ℕ) → Option Command
 command_of [] = None
-command_of (word ∷ files) = if list_all is_positional files then option_and_then (verb_of word) (λ verb. command_on verb files) else None
+command_of (word ∷ files) = if list_all is_positional files then option_and_then (λ verb. command_on verb files) (verb_of word) else None
 
 -- the command that was read, where there is one
 abbrev pub command : Asked → Command

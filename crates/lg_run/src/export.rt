@@ -21,7 +21,10 @@ pub fn export<'a, F: Files>(
     ensures same_files { (F.seen files.new).held ≡ (F.seen files.old).held }
 {
     let bytes = contents(alloc, file, GREATEST_LENGTH, files)?;
-    module_text(alloc, bytes.as_slice()).map_err(|stop| stop.about(file))
+    match module_text(alloc, bytes.as_slice()) {
+        Ok(text) => Ok(text),
+        Err(stop) => Err(stop.about(file)),
+    }
 }
 
 // The text of the module of the circuit in some bytes.

@@ -27,8 +27,13 @@ pub fn vrun<'a, F: Files>(
     ensures same_files { (F.seen files.new).held ≡ (F.seen files.old).held }
 {
     let text = contents(alloc, of_module, MODULE_LENGTH, files)?;
-    let module = valid_module(alloc, text.as_slice())
-        .map_err(|fault| Stop::from(fault).about(of_module))?;
+    let module = match valid_module(alloc, text.as_slice()) {
+        Ok(module) => module,
+        Err(fault) => return Err(Stop::from(fault).about(of_module)),
+    };
     let rows = contents(alloc, of_rows, ROWS_LENGTH, files)?;
-    rows_text(alloc, &module, rows.as_slice()).map_err(|fault| Stop::from(fault).about(of_rows))
+    match rows_text(alloc, &module, rows.as_slice()) {
+        Ok(text) => Ok(text),
+        Err(fault) => Err(Stop::from(fault).about(of_rows)),
+    }
 }
