@@ -168,14 +168,14 @@ module_unread before after of_module of_rows s about is =
     let rows = something before.held of_rows in
     stopped before after (Vrun of_module of_rows) of_module s about (inl refl)
     (of_unread before after of_module MODULE_LENGTH (λ why. IsCommandDue (Vrun of_module of_rows) before.held (Stops why of_module)) (λ none. (None, rows.0, none, rows.1, refl))
-        (λ bytes finds long. (Some bytes, rows.0, finds, rows.1, past_module of_module of_rows bytes rows.0 long)) s.stop is)
+    (λ bytes finds long. (Some bytes, rows.0, finds, rows.1, past_module of_module of_rows bytes rows.0 long)) s.stop is)
 
 pub module_refused : (before after : Seen) (of_module of_rows bytes : List ℕ) (fault : ModuleFault) (s : Stopped) → Finds before.held of_module (Some bytes) → length bytes ≤ MODULE_LENGTH → IsModuleFault bytes fault → s.stop ≡ module_stop fault
     → s.file.now ≡ of_module → Answers before after (Vrun of_module of_rows) (Err s)
 module_refused before after of_module of_rows bytes fault s finds fits is same about =
     let rows = something before.held of_rows in
     let stops = of_fault before after (λ why. IsCommandDue (Vrun of_module of_rows) before.held (Stops why of_module)) (module_stop fault) (of_module_fault fault)
-        (λ d. (Some bytes, rows.0, finds, rows.1, within_module of_module of_rows bytes rows.0 (Stops (module_stop fault) of_module) fits (NoModule fault is d refl))) in
+    (λ d. (Some bytes, rows.0, finds, rows.1, within_module of_module of_rows bytes rows.0 (Stops (module_stop fault) of_module) fits (NoModule fault is d refl))) in
     stopped before after (Vrun of_module of_rows) of_module s about (inl refl) (rw same stops)
 
 module _ (before middle after : Seen) (same_held : middle.held ≡ before.held) (low : before.faults ≤ middle.faults) (of_module of_rows : List ℕ) (m : Module) (has : HasModule before.held of_module m) where
@@ -193,13 +193,13 @@ module _ (before middle after : Seen) (same_held : middle.held ≡ before.held) 
       stopped before after (Vrun of_module of_rows) of_rows s about reads_rows
       (over_both before middle after IsDueOf s.stop low
       (of_unread middle after of_rows ROWS_LENGTH IsDueOf (λ none. on_module before.held of_module of_rows m None (Stops (stop.Input refusal.Missing) of_rows) has (found None none) refl)
-          (λ bytes finds long. on_module before.held of_module of_rows m (Some bytes) (Stops (stop.Input refusal.TooLong) of_rows) has (found (Some bytes) finds) (past_rows m of_rows bytes long)) s.stop is))
+      (λ bytes finds long. on_module before.held of_module of_rows m (Some bytes) (Stops (stop.Input refusal.TooLong) of_rows) has (found (Some bytes) finds) (past_rows m of_rows bytes long)) s.stop is))
 
   pub rows_refused : (bytes : List ℕ) (fault : RowsFault) (s : Stopped) → Finds middle.held of_rows (Some bytes) → length bytes ≤ ROWS_LENGTH → IsRowsFault m bytes fault → s.stop ≡ rows_stop fault → s.file.now ≡ of_rows
       → Answers before after (Vrun of_module of_rows) (Err s)
   rows_refused bytes fault s finds fits is same about =
       let stops = of_fault before after IsDueOf (rows_stop fault) (of_rows_fault fault)
-          (λ d. on_module before.held of_module of_rows m (Some bytes) (Stops (rows_stop fault) of_rows) has (found (Some bytes) finds) (within_rows m of_rows bytes (Stops (rows_stop fault) of_rows) fits ((fault, is, d, refl), refl))) in
+      (λ d. on_module before.held of_module of_rows m (Some bytes) (Stops (rows_stop fault) of_rows) has (found (Some bytes) finds) (within_rows m of_rows bytes (Stops (rows_stop fault) of_rows) fits ((fault, is, d, refl), refl))) in
       stopped before after (Vrun of_module of_rows) of_rows s about reads_rows (rw same stops)
 
   pub rows_written : (bytes : List ℕ) (text : Vec ℕ Global) → Finds middle.held of_rows (Some bytes) → length bytes ≤ ROWS_LENGTH → IsRowsText m bytes text.items → Answers before after (Vrun of_module of_rows) (Ok text)

@@ -1,6 +1,5 @@
 -- The words of the command line, and what they ask for.
-use Rattle.std.specs.Prelude.{ℕ, ◌==◌, Bool, false, not, List, [], ◌∷◌, map, Option, Some, None, option_and_then, if◌then◌else◌, codes, String, string_bytes}
-use Rattle.std.specs.List.{list_all}
+use Rattle.std.specs.Prelude.{ℕ, ◌==◌, Bool, false, ◌&&◌, not, List, [], ◌∷◌, map, Option, Some, None, option_and_then, if◌then◌else◌, codes, String, string_bytes}
 use Rattle.std.specs.declared.alloc.Global.{Global}
 use Rattle.std.specs.Str.{bytes_eq}
 use Rattle.lg_run.specs.declared.words.Asked.{Asked}
@@ -28,16 +27,16 @@ is_positional (c ∷ cs) = not (c == 45)
 abbrev pub verb_of : List ℕ → Option Verb
 verb_of word = if bytes_eq word (codes "export") then Some verb.Export else (if bytes_eq word (codes "vrun") then Some verb.Vrun else None)
 
--- the command of a verb on so many files, and none for more or fewer than it has
+-- the command of a verb on its files, each a positional; and none for more or fewer than it has
 abbrev pub command_on : Verb → List (List ℕ) → Option Command
-command_on verb.Export (file ∷ []) = Some (Export file)
-command_on verb.Vrun (of_module ∷ of_rows ∷ []) = Some (Vrun of_module of_rows)
+command_on verb.Export (file ∷ []) = if is_positional file then Some (Export file) else None
+command_on verb.Vrun (of_module ∷ of_rows ∷ []) = if is_positional of_module && is_positional of_rows then Some (Vrun of_module of_rows) else None
 command_on _ _ = None
 
--- the command of a verb and its positionals, and none for other words
+-- the command of a verb's word and files, and none for other words
 abbrev pub command_of : List (List ℕ) → Option Command
 command_of [] = None
-command_of (word ∷ files) = if list_all is_positional files then option_and_then (λ verb. command_on verb files) (verb_of word) else None
+command_of (word ∷ files) = option_and_then (λ verb. command_on verb files) (verb_of word)
 
 -- the command that was read, where there is one
 abbrev pub command : Asked → Command

@@ -17,6 +17,6 @@ mod words;
 pub use law::{defined_rows_have_a_due_text, exported_modules_give_static_rows, one_is_due};
 pub use one_sheet::EarlyFault;
 pub use status::Status;
-pub use stop::{Unmet, Refusal, Stop};
+pub use stop::{Refusal, Stop, Unmet};
 pub use top_call::run;
 pub use vrun::{MODULE_LENGTH, ROWS_LENGTH};

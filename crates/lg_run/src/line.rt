@@ -9,7 +9,12 @@ use itoa::Buffer;
 use lg_io::{Sink, SinkFault, write_all};
 
 /// Writes what stands before a file's name, the name, and what stands behind it.
-pub fn put_about<E: Sink>(err: &mut E, before: &str, file: &str, after: &str) -> Result<(), SinkFault>
+pub fn put_about<E: Sink>(
+    err: &mut E,
+    before: &str,
+    file: &str,
+    after: &str,
+) -> Result<(), SinkFault>
     ensures wrote { Wrote result (E.seen err.old) (E.seen err.new) (before.now ++ file.now ++ after.now) }
     ensures never_falls { (E.seen err.old).faults ≤ (E.seen err.new).faults }
 {

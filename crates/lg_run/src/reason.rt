@@ -5,7 +5,7 @@ ghost use Rattle.lg_io.specs.Sink.{Wrote};
 ghost use Rattle.lg_run.specs.Lines.{refusal_text, unmet_text};
 
 use crate::line::{put, put_about, put_all, put_name, put_number};
-use crate::stop::{Unmet, Refusal};
+use crate::stop::{Refusal, Unmet};
 use itoa::Buffer;
 use lg_io::{Sink, SinkFault};
 

@@ -8,7 +8,7 @@ ghost use Rattle.lg_run.specs.declared.stop.Stop.TheVariants as stop;
 
 use crate::line::{put, put_about};
 use crate::one_sheet::EarlyFault;
-use crate::reason::{put_unmet, put_input};
+use crate::reason::{put_input, put_unmet};
 use crate::status::Status;
 use lg_circ::CircFault;
 use lg_io::{FileFault, Sink, SinkFault};

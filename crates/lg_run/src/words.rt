@@ -27,13 +27,14 @@ pub fn read_words(words: &[String]) -> Option<Asked<'_>>
     let [verb, files @ ..] = words else {
         return None;
     };
-    let verb = verb_of(verb.as_str())?;
-    if !files.iter().all(|file| is_positional(file.as_str())) {
-        return None;
-    }
-    match (verb, files) {
-        (Verb::Export, [project]) => Some(Asked::Export(project.as_str())),
-        (Verb::Vrun, [module, rows]) => Some(Asked::Vrun(module.as_str(), rows.as_str())),
+    match (verb_of(verb.as_str())?, files) {
+        (Verb::Export, [project]) if is_positional(project.as_str()) => {
+            Some(Asked::Export(project.as_str()))
+        }
+        (Verb::Vrun, [module, rows])
+            if is_positional(module.as_str()) && is_positional(rows.as_str()) => {
+            Some(Asked::Vrun(module.as_str(), rows.as_str()))
+        }
         _ => None,
     }
 }

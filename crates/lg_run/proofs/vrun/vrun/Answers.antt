@@ -46,4 +46,4 @@ returns-clause-answers g c =
     let has : HasModule (seen c.args.files.now).held c.args.of_module.now m = record { bytes = bytes; finds = c.in_ok-text.ensures.answers.0; fits = c.in_ok-text.ensures.answers.1; valid = subst (λ (b : List ℕ). IsValidText b m) c.as_slice.ensures.value c.in-Ok.ensures.found } in
     let fault = subst (λ (b : List ℕ). IsRowsFault m b c.in-Err-rows_text.fault) c.as_slice-2.ensures.value c.in-Err-rows_text.ensures.fault in
     rows_refused (seen c.args.files.now) (seen c.contents.new.files) (seen c.contents-2.new.files) c.in_ok-text.ensures.same_files c.in_ok-text.ensures.never_falls c.args.of_module.now c.args.of_rows.now m has
-    c.in_ok-rows.rows.items c.in-Err-rows_text.fault c.about-2.result c.in_ok-rows.ensures.answers.0 c.in_ok-rows.ensures.answers.1 fault (c.about-2.ensures.0 ∙ c.from-2.ensures) c.about-2.ensures.1
+    c.in_ok-rows.rows.items c.in-Err-rows_text.fault c.about-in-Err-rows_text.result c.in_ok-rows.ensures.answers.0 c.in_ok-rows.ensures.answers.1 fault (c.about-in-Err-rows_text.ensures.0 ∙ c.from-in-Err-rows_text.ensures) c.about-in-Err-rows_text.ensures.1
