@@ -64,7 +64,8 @@ fn whole_tree(alloc: Global, text: &str) -> Result<Element, CircFault>
     }
 }
 
-/// What is too deep to be built is judged first.
+// Why a text gives no tree. One whose tree is too deep to be built is read a second time, without building it, since it may be
+// no project at all.
 fn refuse(alloc: Global, text: &str, fault: CircFault) -> Result<Element, CircFault>
     requires { Makes (λ root. SpellsText root text.now) (Err fault) }
     ensures { IsTreeOf text.now result }

@@ -25,11 +25,17 @@ pub enum Place {
 /// leads to the next one; arrows of nodes on the path that were not followed yet are open.
 #[derive(Drop)]
 pub struct Search {
+    /// What is known of each node.
     pub places: Items<Place>,
+    /// The nodes that are being searched, each after one that leads to it.
     pub path: Items<usize>,
+    /// The path cut into groups, each by its first node.
     pub groups: Items<Group>,
+    /// The arrows of nodes on the path that were not followed yet, those of later groups last.
     pub arrows: Items<usize>,
+    /// The nodes that are done, each after all that it leads to but those that lead back to it.
     pub order: Items<usize>,
+    /// Whether each node that is done leads to itself.
     pub cyclic: Items<bool>,
 }
 

@@ -9,11 +9,12 @@ use Rattle.lg_run.specs.declared.status.Status.{Status}
 use Rattle.lg_run.specs.declared.status.Status.TheVariants as status
 use Rattle.lg_run.specs.declared.stop.Stop.{Stop}
 use Rattle.lg_run.specs.declared.stop.Stop.TheVariants as stop
-use Rattle.lg_run.specs.Answered.{StopsRightly, FailsRightly, AgreesFor}
-use Rattle.lg_run.specs.Due.{Held, Due, Writes, Stops, IsCommandDue, IsDueFor, IsDue}
+use Rattle.lg_run.specs.Answered.{StopsRightly, FailsRightly}
+use Rattle.lg_run.specs.Contents.{Held}
+use Rattle.lg_run.specs.Due.{Due, Writes, Stops, IsCommandDue, IsDueFor, IsDue, AgreesFor}
 use Rattle.lg_run.specs.Lines.{status_of, line_of}
-use Rattle.lg_run.specs.Outcome.{Ends, Follows, WroteDue, WrotePrefix, AgreesIfExported, IsDueLine, IsLine, SaidLine}
-use Rattle.lg_run.specs.Words.{Command, Export, command_of}
+use Rattle.lg_run.specs.Outcome.{Ends, Follows, WroteDue, WrotePrefix, AgreesAsAsked, IsDueLine, IsLine, SaidLine}
+use Rattle.lg_run.specs.Words.{Command, command_of}
 use Rattle.lg_run.proofs.OneDue.{same_due}
 
 -- what is due for the command is due for its words
@@ -31,12 +32,10 @@ done_written told words c text s before after asked h ends e =
     subst (λ (x : Status). WroteDue words told x before after) (sym e) (record { text = text; due = due_for words c told (Writes status.Done text) asked h.0; took = took })
 
 pub agrees_written : (told : Option Held) (words : List (List ℕ)) (c : Command) (text : List ℕ) (s : Status) (before after : Seen) → command_of words ≡ Some c → IsAsked told c text → Ends s before after text → s ≡ status.Done
-    → AgreesIfExported words told before after
-agrees_written told words c text s before after asked h ends e = λ file exported.
-    let took : Took before after text = subst (λ (x : Status). Ends x before after text) e ends in
-    let same : c ≡ Export file = same_Some c (Export file) (sym asked ∙ exported) in
-    let a = subst (λ (c : Command). AgreesFor c told text) same h.1 in
-    record { bytes = a.0; text = text; finds = a.1; fits = a.2; agreed = a.3; took = took }
+    → AgreesAsAsked words told before after
+agrees_written told words c text s before after asked h ends e = λ other asks.
+    let same : c ≡ other = same_Some c other (sym asked ∙ asks) in
+    record { text = text; agrees = subst (λ (c : Command). AgreesFor c told text) same h.1; took = subst (λ (x : Status). Ends x before after text) e ends }
 
 pub prefix_written : (told : Option Held) (words : List (List ℕ)) (c : Command) (text : List ℕ) (s : Status) (before after : Seen) → command_of words ≡ Some c → IsAsked told c text → Ends s before after text → s ≡ status.WriteFault
     → WrotePrefix words told before after

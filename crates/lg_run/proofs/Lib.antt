@@ -1,12 +1,10 @@
-pub mod Found
-pub mod Dues
+pub mod Reading
 pub mod Making
 pub mod OneSheetLemmas
 pub mod OneDue
 pub mod Commands
-pub mod VrunSteps
-pub mod DueRows
 pub mod Answering
+pub mod DueRows
 pub mod Pieces
 pub mod RefusalLines
 pub mod StaticRows

@@ -11,35 +11,35 @@ use Rattle.lg_netlist.specs.declared.netlist.Netlist.{Netlist}
 use Rattle.lg_netlist.specs.Acceptance.{IsRefused}
 use Rattle.lg_run.specs.declared.one_sheet.EarlyFault.{EarlyFault}
 use Rattle.lg_run.specs.declared.one_sheet.EarlyFault.TheVariants as early
-use Rattle.lg_run.specs.Exported.{Makes}
+use Rattle.lg_run.specs.Answered.{IsUnmade, Long, NoText, NoMemory}
+use Rattle.lg_run.specs.Due.{IsRefusedText, Deep, NoProject, Unbuilt, Unaccepted}
 use Rattle.lg_run.specs.OneSheet.{IsBuilt, IsNotBuilt}
 use Rattle.lg_run.specs.Stops.{circ_stop, early_stop, not_accepted_stop}
 
 -- a project that was not read
-pub Makes-circ : (bytes : List ℕ) (fault : CircFault) → (◌≡◌ {A = Result Project CircFault} (Err fault) (Err circ.TooLong) → GREATEST_LENGTH < length bytes)
+pub unread : (bytes : List ℕ) (fault : CircFault) → (◌≡◌ {A = Result Project CircFault} (Err fault) (Err circ.TooLong) → GREATEST_LENGTH < length bytes)
     → (◌≡◌ {A = Result Project CircFault} (Err fault) (Err circ.TooDeep) → (length bytes ≤ GREATEST_LENGTH) × IsTooDeep bytes)
-    → (◌≡◌ {A = Result Project CircFault} (Err fault) (Err circ.NotProject) → (length bytes ≤ GREATEST_LENGTH) × IsNoProject bytes) → Makes bytes (Err (circ_stop fault))
-Makes-circ bytes circ.TooLong long deep none = long refl
-Makes-circ bytes circ.TooDeep long deep none = deep refl
-Makes-circ bytes circ.NotProject long deep none = none refl
-Makes-circ bytes circ.Memory long deep none = tt
+    → (◌≡◌ {A = Result Project CircFault} (Err fault) (Err circ.NotProject) → (length bytes ≤ GREATEST_LENGTH) × IsNoProject bytes) → IsUnmade bytes (circ_stop fault)
+unread bytes circ.TooLong long deep none = Long (long refl) refl
+unread bytes circ.TooDeep long deep none = let d = deep refl in NoText d.0 (Deep d.1 refl)
+unread bytes circ.NotProject long deep none = let n = none refl in NoText n.0 (NoProject n.1 refl)
+unread bytes circ.Memory long deep none = NoMemory refl
 
 -- a project that was read, with a circuit that is not built
-pub Makes-early : (bytes : List ℕ) (project : Project) (fault : EarlyFault) → length bytes ≤ GREATEST_LENGTH → SaysProject bytes project
-    → (◌≡◌ {A = Result Netlist EarlyFault} (Err fault) (Err early.NotBuilt) → IsNotBuilt project) → Makes bytes (Err (early_stop fault))
-Makes-early bytes project early.NotBuilt within says none = (within, (project, says, none refl))
-Makes-early bytes project early.Memory within says none = tt
+pub unbuilt : (bytes : List ℕ) (project : Project) (fault : EarlyFault) → length bytes ≤ GREATEST_LENGTH → SaysProject bytes project
+    → (◌≡◌ {A = Result Netlist EarlyFault} (Err fault) (Err early.NotBuilt) → IsNotBuilt project) → IsUnmade bytes (early_stop fault)
+unbuilt bytes project early.NotBuilt within says none = NoText within (Unbuilt project says (none refl) refl)
+unbuilt bytes project early.Memory within says none = NoMemory refl
 
 -- a netlist that was not accepted
-pub Makes-not_accepted : (bytes : List ℕ) (project : Project) (netlist : Netlist) (fault : NotAccepted) → length bytes ≤ GREATEST_LENGTH → SaysProject bytes project → IsBuilt project netlist
-    → (fault ≡ not_accepted.Memory) ⊎ IsRefused netlist fault → Makes bytes (Err (not_accepted_stop fault))
-Makes-not_accepted bytes project netlist fault within says built why = by fault why
+pub unaccepted : (bytes : List ℕ) (project : Project) (netlist : Netlist) (fault : NotAccepted) → length bytes ≤ GREATEST_LENGTH → SaysProject bytes project → IsBuilt project netlist
+    → (fault ≡ not_accepted.Memory) ⊎ IsRefused netlist fault → IsUnmade bytes (not_accepted_stop fault)
+unaccepted bytes project netlist fault within says built (inl e) = rw e (NoMemory refl)
+unaccepted bytes project netlist fault within says built (inr refused) =
+    by fault (record { project = project; netlist = netlist; says = says; built = built; refused = refused })
   where
-    by : (fault : NotAccepted) → (fault ≡ not_accepted.Memory) ⊎ IsRefused netlist fault → Makes bytes (Err (not_accepted_stop fault))
-    by (not_accepted.ManyDrivers net first second) (inl e) = absurd cc
-    by (not_accepted.ManyDrivers net first second) (inr r) = (within, record { project = project; netlist = netlist; says = says; built = built; refused = r })
-    by (not_accepted.Undriven part port) (inl e) = absurd cc
-    by (not_accepted.Undriven part port) (inr r) = (within, record { project = project; netlist = netlist; says = says; built = built; refused = r })
-    by (not_accepted.Cycle part) (inl e) = absurd cc
-    by (not_accepted.Cycle part) (inr r) = (within, record { project = project; netlist = netlist; says = says; built = built; refused = r })
-    by not_accepted.Memory why = tt
+    by : (fault : NotAccepted) → IsRefusedText bytes fault → IsUnmade bytes (not_accepted_stop fault)
+    by (not_accepted.ManyDrivers net first second) is = NoText within (Unaccepted (not_accepted.ManyDrivers net first second) is refl)
+    by (not_accepted.Undriven part port) is = NoText within (Unaccepted (not_accepted.Undriven part port) is refl)
+    by (not_accepted.Cycle part) is = NoText within (Unaccepted (not_accepted.Cycle part) is refl)
+    by not_accepted.Memory is = NoMemory refl

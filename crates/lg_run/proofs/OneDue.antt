@@ -23,6 +23,8 @@ use Rattle.lg_export.specs.Layout.{module_of}
 use Rattle.lg_vtree.specs.declared.module.Module.{Module}
 use Rattle.lg_vtree.specs.Printed.{module_text}
 use Rattle.lg_vmeaning.specs.Valid.{IsValid}
+use Rattle.lg_vectors.specs.declared.fault.VectorFault.{VectorFault}
+use Rattle.lg_vectors.specs.declared.fault.VectorFault.TheVariants as vector
 use Rattle.lg_vrows.specs.declared.fault.ModuleFault.{ModuleFault}
 use Rattle.lg_vrows.specs.declared.fault.ModuleFault.TheVariants as module_fault
 use Rattle.lg_vrows.specs.declared.fault.RowsFault.{RowsFault}
@@ -33,11 +35,13 @@ use Rattle.lg_vrows.proofs.OneModule.{one_valid, no_fault as no_module_fault, on
 use Rattle.lg_vrows.proofs.OneText.{one_text, no_fault as no_rows_fault, one_fault as one_rows_fault}
 use Rattle.lg_run.specs.declared.status.Status.{Status}
 use Rattle.lg_run.specs.declared.status.Status.TheVariants.{Done}
-use Rattle.lg_run.specs.declared.stop.Refusal.TheVariants.{Missing, TooLong, TooDeep, NotProject, NotBuilt, OfModule, OfRows}
+use Rattle.lg_run.specs.declared.stop.Refusal.TheVariants.{Missing, TooLong, TooDeep, NotProject, NotBuilt}
 use Rattle.lg_run.specs.declared.stop.Stop.{Stop}
-use Rattle.lg_run.specs.declared.stop.Stop.TheVariants.{Usage, Input, NotAccepted, ReadFault, WriteFault, Memory}
+use Rattle.lg_run.specs.declared.stop.Stop.TheVariants.{Usage, Input}
 use Rattle.lg_run.specs.declared.vrun.TheConstants.{MODULE_LENGTH, ROWS_LENGTH}
-use Rattle.lg_run.specs.Due.{Held, Due, Writes, Stops, IsExportText, IsRefusedText, IsNoModule, IsModuleDue, IsExportDue, IsOutputsDue, IsRowsDue, IsValidDue, OnModule, NoModule, IsVrunDue, IsCommandDue, IsDueFor, IsDue}
+use Rattle.lg_run.specs.Contents.{Held}
+use Rattle.lg_run.specs.Stops.{IsDeserved, not_accepted_stop, module_stop, vector_stop, rows_stop}
+use Rattle.lg_run.specs.Due.{Due, Writes, Stops, IsExportText, IsRefusedText, IsNoModule, Deep, NoProject, Unbuilt, Unaccepted, IsModuleDue, IsExportDue, IsOutputsDue, IsRowsDue, IsValidDue, OnModule, NoModule, IsVrunDue, IsCommandDue, IsDueFor, IsDue}
 use Rattle.lg_run.specs.OneSheet.{IsBuilt, opens_with}
 use Rattle.lg_run.specs.Words.{Command, Export, Vrun, command_of}
 use Rattle.lg_run.proofs.OneSheetLemmas.{head_is, one_built}
@@ -78,18 +82,18 @@ of_netlist : (bytes : List ℕ) (project : Project) (n : Netlist) → SaysProjec
 of_netlist bytes project n says built (inl accepted) =
     inl (module_text (module_of n), record { project = project; netlist = n; says = says; built = built; accepted = accepted; printed = refl })
 of_netlist bytes project n says built (inr (fault, refused)) =
-    inr (NotAccepted fault, record { project = project; netlist = n; says = says; built = built; refused = refused })
+    inr (not_accepted_stop fault, Unaccepted fault (record { project = project; netlist = n; says = says; built = built; refused = refused }) refl)
 
 of_project : (bytes : List ℕ) (project : Project) → SaysProject bytes project → BuiltOrNot project → TextOrNot bytes
 of_project bytes project says (inl (n, built)) = of_netlist bytes project n says built (judged n)
-of_project bytes project says (inr none) = inr (Input NotBuilt, (project, says, none))
+of_project bytes project says (inr none) = inr (Input NotBuilt, Unbuilt project says none refl)
 
 text_or_not : (bytes : List ℕ) → length bytes ≤ GREATEST_LENGTH → TextOrNot bytes
 text_or_not bytes within = by (says_or_not bytes)
   where
     deep : ((project : Project) → SaysProject bytes project → ⊥) → IsTooDeep bytes ⊎ (IsTooDeep bytes → ⊥) → TextOrNot bytes
-    deep none (inl d) = inr (Input TooDeep, d)
-    deep none (inr d) = inr (Input NotProject, record { not_deep = d; says_none = none })
+    deep none (inl d) = inr (Input TooDeep, Deep d refl)
+    deep none (inr d) = inr (Input NotProject, NoProject (record { not_deep = d; says_none = none }) refl)
 
     by : ((project : Project) × SaysProject bytes project) ⊎ ((project : Project) → SaysProject bytes project → ⊥) → TextOrNot bytes
     by (inr none) = deep none (deep_or_not bytes)
@@ -127,55 +131,31 @@ OneOf P = (due : Due) × P due × ((other : Due) → P other → other ≡ due)
 
 -- where there is a reason for none, there is no text
 pub no_text : (bytes : List ℕ) (why : Stop) (text : List ℕ) → IsNoModule bytes why → IsExportText bytes text → ⊥
-no_text bytes (Input TooDeep) text h t = deep_says_none bytes t.project h t.says
-no_text bytes (Input NotProject) text h t = h.says_none t.project t.says
-no_text bytes (Input NotBuilt) text h t = built_once bytes t.project h.0 t.netlist t.says h.1 t.built h.2
-no_text bytes (NotAccepted fault) text h t =
+no_text bytes why text (Deep h e) t = deep_says_none bytes t.project h t.says
+no_text bytes why text (NoProject h e) t = h.says_none t.project t.says
+no_text bytes why text (Unbuilt project says none e) t = built_once bytes t.project project t.netlist t.says says t.built none
+no_text bytes why text (Unaccepted fault h e) t =
     let netlist : t.netlist ≡ h.netlist = same_netlist bytes h.project t.project h.netlist t.netlist h.says t.says h.built t.built in
     accepted_not_refused h.netlist fault (subst IsAccepted netlist t.accepted) h.refused
-no_text bytes (Input Missing) text h t = h
-no_text bytes (Input TooLong) text h t = h
-no_text bytes (Input (OfModule fault)) text h t = h
-no_text bytes (Input (OfRows fault)) text h t = h
-no_text bytes Usage text h t = h
-no_text bytes ReadFault text h t = h
-no_text bytes WriteFault text h t = h
-no_text bytes Memory text h t = h
 
 -- the reasons exclude each other
 one_reason : (bytes : List ℕ) (a b : Stop) → IsNoModule bytes a → IsNoModule bytes b → a ≡ b
-one_reason bytes (Input TooDeep) (Input TooDeep) h k = refl
-one_reason bytes (Input TooDeep) (Input NotProject) h k = absurd (k.not_deep h)
-one_reason bytes (Input TooDeep) (Input NotBuilt) h k = absurd (deep_says_none bytes k.0 h k.1)
-one_reason bytes (Input TooDeep) (NotAccepted b) h k = absurd (deep_says_none bytes k.project h k.says)
-one_reason bytes (Input NotProject) (Input TooDeep) h k = absurd (h.not_deep k)
-one_reason bytes (Input NotProject) (Input NotProject) h k = refl
-one_reason bytes (Input NotProject) (Input NotBuilt) h k = absurd (h.says_none k.0 k.1)
-one_reason bytes (Input NotProject) (NotAccepted b) h k = absurd (h.says_none k.project k.says)
-one_reason bytes (Input NotBuilt) (Input TooDeep) h k = absurd (deep_says_none bytes h.0 k h.1)
-one_reason bytes (Input NotBuilt) (Input NotProject) h k = absurd (k.says_none h.0 h.1)
-one_reason bytes (Input NotBuilt) (Input NotBuilt) h k = refl
-one_reason bytes (Input NotBuilt) (NotAccepted b) h k = absurd (built_once bytes k.project h.0 k.netlist k.says h.1 k.built h.2)
-one_reason bytes (NotAccepted a) (Input TooDeep) h k = absurd (deep_says_none bytes h.project k h.says)
-one_reason bytes (NotAccepted a) (Input NotProject) h k = absurd (k.says_none h.project h.says)
-one_reason bytes (NotAccepted a) (Input NotBuilt) h k = absurd (built_once bytes h.project k.0 h.netlist h.says k.1 h.built k.2)
-one_reason bytes (NotAccepted a) (NotAccepted b) h k = ap (λ (reason : Refused). NotAccepted reason) (one_refused bytes a b h k)
-one_reason bytes (Input Missing) b h k = absurd h
-one_reason bytes (Input TooLong) b h k = absurd h
-one_reason bytes (Input (OfModule fault)) b h k = absurd h
-one_reason bytes (Input (OfRows fault)) b h k = absurd h
-one_reason bytes Usage b h k = absurd h
-one_reason bytes ReadFault b h k = absurd h
-one_reason bytes WriteFault b h k = absurd h
-one_reason bytes Memory b h k = absurd h
-one_reason bytes a (Input Missing) h k = absurd k
-one_reason bytes a (Input TooLong) h k = absurd k
-one_reason bytes a (Input (OfModule fault)) h k = absurd k
-one_reason bytes a (Input (OfRows fault)) h k = absurd k
-one_reason bytes a Usage h k = absurd k
-one_reason bytes a ReadFault h k = absurd k
-one_reason bytes a WriteFault h k = absurd k
-one_reason bytes a Memory h k = absurd k
+one_reason bytes a b (Deep h e) (Deep k f) = e ∙ sym f
+one_reason bytes a b (Deep h e) (NoProject k f) = absurd (k.not_deep h)
+one_reason bytes a b (Deep h e) (Unbuilt project says none f) = absurd (deep_says_none bytes project h says)
+one_reason bytes a b (Deep h e) (Unaccepted fault k f) = absurd (deep_says_none bytes k.project h k.says)
+one_reason bytes a b (NoProject h e) (Deep k f) = absurd (h.not_deep k)
+one_reason bytes a b (NoProject h e) (NoProject k f) = e ∙ sym f
+one_reason bytes a b (NoProject h e) (Unbuilt project says none f) = absurd (h.says_none project says)
+one_reason bytes a b (NoProject h e) (Unaccepted fault k f) = absurd (h.says_none k.project k.says)
+one_reason bytes a b (Unbuilt project says none e) (Deep k f) = absurd (deep_says_none bytes project k says)
+one_reason bytes a b (Unbuilt project says none e) (NoProject k f) = absurd (k.says_none project says)
+one_reason bytes a b (Unbuilt project says none e) (Unbuilt other says_other none_other f) = e ∙ sym f
+one_reason bytes a b (Unbuilt project says none e) (Unaccepted fault k f) = absurd (built_once bytes k.project project k.netlist k.says says k.built none)
+one_reason bytes a b (Unaccepted fault h e) (Deep k f) = absurd (deep_says_none bytes h.project k h.says)
+one_reason bytes a b (Unaccepted fault h e) (NoProject k f) = absurd (k.says_none h.project h.says)
+one_reason bytes a b (Unaccepted fault h e) (Unbuilt project says none f) = absurd (built_once bytes h.project project h.netlist h.says says h.built none)
+one_reason bytes a b (Unaccepted fault h e) (Unaccepted other k f) = e ∙ (ap not_accepted_stop (one_refused bytes fault other h k) ∙ sym f)
 
 of_module : (file bytes : List ℕ) → TextOrNot bytes → OneOf (IsModuleDue file bytes)
 of_module file bytes (inl (text, t)) = (Writes Done text, (refl, t), λ other h. same other h)
@@ -199,13 +179,20 @@ of_file file (Some bytes) = by_limit (nat_lt GREATEST_LENGTH (length bytes)) ref
 
 -- ---- the rows of a module
 
+-- a fault that is told is not want of memory
+told_rows : (fault : RowsFault) → IsDeserved (rows_stop fault) → fault ≢ rows_fault.Memory
+told_rows fault d e = subst (λ (f : RowsFault). IsDeserved (rows_stop f)) e d
+
+told_module : (fault : ModuleFault) → IsDeserved (module_stop fault) → fault ≢ module_fault.Memory
+told_module fault d e = subst (λ (f : ModuleFault). IsDeserved (module_stop f)) e d
+
 same_outputs : (m : Module) → IsValid m → (file bytes : List ℕ) (a b : Due) → IsOutputsDue m file bytes a → IsOutputsDue m file bytes b → a ≡ b
 same_outputs m valid file bytes (Writes s text) (Writes t other) h k = ap (λ (x : Status). Writes x text) (h.0 ∙ sym k.0) ∙ ap (Writes t) (one_text m valid bytes text other h.1 k.1)
-same_outputs m valid file bytes (Writes s text) (Stops why about) h k = absurd (no_rows_fault m valid bytes text k.1.0 k.1.1 k.1.2 h.1)
-same_outputs m valid file bytes (Stops why about) (Writes s text) h k = absurd (no_rows_fault m valid bytes text h.1.0 h.1.1 h.1.2 k.1)
-same_outputs m valid file bytes (Stops why about) (Stops other place) h k =
-    let fault : h.1.0 ≡ k.1.0 = one_rows_fault m valid bytes h.1.0 k.1.0 h.1.1 k.1.1 h.1.2 k.1.2 in
-    ap (λ (x : Stop). Stops x about) (h.1.3 ∙ (ap (λ (f : RowsFault). Input (OfRows f)) fault ∙ sym k.1.3)) ∙ ap (Stops other) (h.0 ∙ sym k.0)
+same_outputs m valid file bytes (Writes s text) (Stops why about) h (k, e) = absurd (no_rows_fault m valid bytes text k.0 (told_rows k.0 k.2) k.1 h.1)
+same_outputs m valid file bytes (Stops why about) (Writes s text) (h, e) k = absurd (no_rows_fault m valid bytes text h.0 (told_rows h.0 h.2) h.1 k.1)
+same_outputs m valid file bytes (Stops why about) (Stops other place) (h, e) (k, f) =
+    let fault : h.0 ≡ k.0 = one_rows_fault m valid bytes h.0 k.0 (told_rows h.0 h.2) (told_rows k.0 k.2) h.1 k.1 in
+    ap (λ (x : Stop). Stops x about) (h.3 ∙ (ap rows_stop fault ∙ sym k.3)) ∙ ap (Stops other) (e ∙ sym f)
 
 same_rows : (m : Module) → IsValid m → (file : List ℕ) (found : Option (List ℕ)) (a b : Due) → IsRowsDue m file found a → IsRowsDue m file found b → a ≡ b
 same_rows m valid file None a b h k = h ∙ sym k
@@ -219,11 +206,11 @@ same_valid : (of_module of_rows bytes : List ℕ) (rows : Option (List ℕ)) (a 
 same_valid of_module of_rows bytes rows a b (OnModule m v h) (OnModule n w k) =
     let same : n ≡ m = one_valid bytes n m w v in
     same_rows m v.valid of_rows rows a b h (subst (λ (n : Module). IsRowsDue n of_rows rows b) same k)
-same_valid of_module of_rows bytes rows a b (OnModule m v h) (NoModule fault some is e) = absurd (no_module_fault bytes m fault some is v)
-same_valid of_module of_rows bytes rows a b (NoModule fault some is e) (OnModule m v h) = absurd (no_module_fault bytes m fault some is v)
-same_valid of_module of_rows bytes rows a b (NoModule fault some is e) (NoModule other more also f) =
-    let same : fault ≡ other = one_module_fault bytes fault other some more is also in
-    e ∙ (ap (λ (f : ModuleFault). Stops (Input (OfModule f)) of_module) same ∙ sym f)
+same_valid of_module of_rows bytes rows a b (OnModule m v h) (NoModule fault is d e) = absurd (no_module_fault bytes m fault (told_module fault d) is v)
+same_valid of_module of_rows bytes rows a b (NoModule fault is d e) (OnModule m v h) = absurd (no_module_fault bytes m fault (told_module fault d) is v)
+same_valid of_module of_rows bytes rows a b (NoModule fault is d e) (NoModule other also g f) =
+    let same : fault ≡ other = one_module_fault bytes fault other (told_module fault d) (told_module other g) is also in
+    e ∙ (ap (λ (f : ModuleFault). Stops (module_stop f) of_module) same ∙ sym f)
 
 same_vrun : (of_module of_rows : List ℕ) (found rows : Option (List ℕ)) (a b : Due) → IsVrunDue of_module of_rows found rows a → IsVrunDue of_module of_rows found rows b → a ≡ b
 same_vrun of_module of_rows None rows a b h k = h ∙ sym k
@@ -251,6 +238,27 @@ same_for (Some c) held a b h k = same_command c held a b h k
 pub same_due : (words : List (List ℕ)) (held : Held) (a b : Due) → IsDue words (Some held) a → IsDue words (Some held) b → a ≡ b
 same_due words held a b h k = same_for (command_of words) held a b h k
 
+-- a fault that is not want of memory is told
+module_deserved : (fault : ModuleFault) → fault ≢ module_fault.Memory → IsDeserved (module_stop fault)
+module_deserved module_fault.NotSubset known = tt
+module_deserved (module_fault.NotValid rule) known = tt
+module_deserved (module_fault.Cyclic wire) known = tt
+module_deserved module_fault.Memory known = absurd (known refl)
+
+vector_deserved : (fault : VectorFault) → fault ≢ vector.Memory → IsDeserved (vector_stop fault)
+vector_deserved (vector.NotVector line) known = tt
+vector_deserved (vector.NoPin name) known = tt
+vector_deserved (vector.PinWidth name) known = tt
+vector_deserved (vector.PinClash name) known = tt
+vector_deserved vector.TooManyRows known = tt
+vector_deserved (vector.MissingPin name) known = tt
+vector_deserved vector.Memory known = absurd (known refl)
+
+rows_deserved : (m : Module) (bytes : List ℕ) (fault : RowsFault) → fault ≢ rows_fault.Memory → IsRowsFault m bytes fault → IsDeserved (rows_stop fault)
+rows_deserved m bytes (rows_fault.Vector fault) known is = vector_deserved fault is.0
+rows_deserved m bytes (rows_fault.Undefined row) known is = tt
+rows_deserved m bytes rows_fault.Memory known is = absurd (known refl)
+
 -- rows on a module have a text or a reason
 some_rows : (m : Module) → IsValid m → (file : List ℕ) (found : Option (List ℕ)) → (due : Due) × IsRowsDue m file found due
 some_rows m valid file None = (Stops (Input Missing) file, refl)
@@ -260,7 +268,7 @@ some_rows m valid file (Some bytes) = by (nat_lt ROWS_LENGTH (length bytes)) (ro
         → (due : Due) × MatchBool long (due ≡ Stops (Input TooLong) file) (IsOutputsDue m file bytes due)
     by true told = (Stops (Input TooLong) file, refl)
     by false (inl (text, is)) = (Writes Done text, (refl, is))
-    by false (inr (fault, known, is)) = (Stops (Input (OfRows fault)) file, (refl, (fault, known, is, refl)))
+    by false (inr (fault, known, is)) = (Stops (rows_stop fault) file, ((fault, is, rows_deserved m bytes fault known is, refl), refl))
 
 some_vrun : (of_module of_rows : List ℕ) (found rows : Option (List ℕ)) → (due : Due) × IsVrunDue of_module of_rows found rows due
 some_vrun of_module of_rows None rows = (Stops (Input Missing) of_module, refl)
@@ -269,7 +277,7 @@ some_vrun of_module of_rows (Some bytes) rows = by (nat_lt MODULE_LENGTH (length
     on : ((m : Module) × IsValidText bytes m) ⊎ ((fault : ModuleFault) × (fault ≢ module_fault.Memory) × IsModuleFault bytes fault)
         → (due : Due) × IsValidDue of_module of_rows bytes rows due
     on (inl (m, text)) = let so = some_rows m text.valid of_rows rows in (so.0, OnModule m text so.1)
-    on (inr (fault, known, is)) = (Stops (Input (OfModule fault)) of_module, NoModule fault known is refl)
+    on (inr (fault, known, is)) = (Stops (module_stop fault) of_module, NoModule fault is (module_deserved fault known) refl)
 
     by : (long : Bool) → nat_lt MODULE_LENGTH (length bytes) ≡ long
         → (due : Due) × MatchBool long (due ≡ Stops (Input TooLong) of_module) (IsValidDue of_module of_rows bytes rows due)

@@ -30,7 +30,8 @@ use Rattle.lg_run.specs.declared.status.Status.{Status}
 use Rattle.lg_run.specs.declared.stop.Refusal.TheVariants.{TooLong}
 use Rattle.lg_run.specs.declared.stop.Stop.TheVariants.{Input}
 use Rattle.lg_run.specs.declared.vrun.TheConstants.{MODULE_LENGTH, ROWS_LENGTH}
-use Rattle.lg_run.specs.Due.{Held, Due, Writes, Stops, IsOutputsDue, IsRowsDue, IsValidDue, OnModule, NoModule, IsVrunDue, IsDueFor, IsDue}
+use Rattle.lg_run.specs.Contents.{Held}
+use Rattle.lg_run.specs.Due.{Due, Writes, Stops, IsOutputsDue, IsRowsDue, IsValidDue, OnModule, NoModule, IsVrunDue, IsDueFor, IsDue}
 use Rattle.lg_run.specs.StaticText.{IsStaticText}
 use Rattle.lg_run.specs.Words.{Command, Vrun, command_of}
 
@@ -86,7 +87,7 @@ module _ (n : Netlist) (text : List ℕ) (none : has_no_clock n ≡ true) (accep
 
   by_module : length text ≤ MODULE_LENGTH → IsValidDue of_module of_rows text (Some rows) (Writes status printed) → Shown
   by_module fits (OnModule m valid h) = by_rows fits m valid (nat_lt ROWS_LENGTH (length rows)) h
-  by_module fits (NoModule fault some is e) = absurd (cc e)
+  by_module fits (NoModule fault is d e) = absurd (cc e)
 
   by_length : (long : Bool) → nat_lt MODULE_LENGTH (length text) ≡ long
       → MatchBool long (◌≡◌ {A = Due} (Writes status printed) (Stops (Input TooLong) of_module)) (IsValidDue of_module of_rows text (Some rows) (Writes status printed)) → Shown

@@ -1,10 +1,10 @@
 -- What is due for some words and some files: a text with its status, or the first stop in the order of the verb's steps.
-use Rattle.std.specs.Prelude.{◌≡◌, ◌≢◌, ℕ, ◌≤◌, List, [], length, Option, Some, None, nat_lt, MatchBool, IfSome, ◌⊎◌}
+use Rattle.std.specs.Prelude.{◌≡◌, ℕ, ◌≤◌, List, [], length, Option, Some, None, nat_lt, MatchBool, ◌⊎◌}
 use Rattle.lg_run.specs.declared.status.Status.{Status}
 use Rattle.lg_run.specs.declared.status.Status.TheVariants.{Done}
-use Rattle.lg_run.specs.declared.stop.Refusal.TheVariants.{Missing, TooLong, TooDeep, NotProject, NotBuilt, OfModule, OfRows}
+use Rattle.lg_run.specs.declared.stop.Refusal.TheVariants.{Missing, TooLong, TooDeep, NotProject, NotBuilt}
 use Rattle.lg_run.specs.declared.stop.Stop.{Stop}
-use Rattle.lg_run.specs.declared.stop.Stop.TheVariants.{Usage, Input, NotAccepted, ReadFault, WriteFault, Memory}
+use Rattle.lg_run.specs.declared.stop.Stop.TheVariants.{Usage, Input}
 use Rattle.lg_circ.specs.declared.project.Project.{Project}
 use Rattle.lg_circ.specs.Project.{SaysProject, IsTooDeep, IsNoProject}
 use Rattle.lg_export.specs.Agreement.{Agrees}
@@ -15,14 +15,14 @@ use Rattle.lg_netlist.specs.declared.netlist.Netlist.{Netlist}
 use Rattle.lg_netlist.specs.Acceptance.{IsAccepted, IsRefused}
 use Rattle.lg_vtree.specs.Grammar.{IsModuleText as IsTextOf}
 use Rattle.lg_vtree.specs.Printed.{module_text}
+use Rattle.lg_run.specs.Contents.{Held, Finds}
+use Rattle.lg_run.specs.Stops.{IsDeserved, not_accepted_stop, module_stop, rows_stop}
 use Rattle.lg_run.specs.OneSheet.{IsBuilt, IsNotBuilt}
 use Rattle.lg_run.specs.Words.{Command, Export, Vrun, command_of}
 use Rattle.lg_vtree.specs.declared.module.Module.{Module}
 use Rattle.lg_vrows.specs.Due.{IsValidText, IsModuleFault, IsRowsText, IsRowsFault}
 use Rattle.lg_vrows.specs.declared.fault.ModuleFault.{ModuleFault}
-use Rattle.lg_vrows.specs.declared.fault.ModuleFault.TheVariants as module_fault
 use Rattle.lg_vrows.specs.declared.fault.RowsFault.{RowsFault}
-use Rattle.lg_vrows.specs.declared.fault.RowsFault.TheVariants as rows_fault
 
 -- how many bytes a file has at most: one with a project, one with a module, and one with rows
 abbrev pub project_length : ℕ
@@ -38,14 +38,6 @@ rows_length = 16777216
 pub data Due : Type 0 where
   Writes : (status : Status) → (text : List ℕ) → Due
   Stops : (stop : Stop) → (file : List ℕ) → Due
-
--- contents by name
-abbrev pub Held : Type 0
-Held = List ℕ → Option (List ℕ)
-
--- what a read of a file finds: what is held, where the files tell it, and else anything
-abbrev pub Finds : Option Held → List ℕ → Option (List ℕ) → Type 0
-Finds told file found = IfSome told (λ held. held file ≡ found)
 
 -- the bytes say a project with a circuit that is built, its netlist is accepted, and this is the text of its module
 pub record IsExportText (bytes text : List ℕ) : Type 0 where
@@ -77,19 +69,11 @@ pub record IsAgreedText (bytes text : List ℕ) : Type 0 where
 
 -- why bytes have no text of a module: they are too deep, or say no project, or one with a circuit that is not built or whose
 -- netlist is refused
-abbrev pub IsNoModule : List ℕ → Stop → Type 0
-IsNoModule bytes (Input TooDeep) = IsTooDeep bytes
-IsNoModule bytes (Input NotProject) = IsNoProject bytes
-IsNoModule bytes (Input NotBuilt) = (project : Project) × SaysProject bytes project × IsNotBuilt project
-IsNoModule bytes (NotAccepted reason) = IsRefusedText bytes reason
-IsNoModule bytes (Input Missing) = ⊥
-IsNoModule bytes (Input TooLong) = ⊥
-IsNoModule bytes (Input (OfModule fault)) = ⊥
-IsNoModule bytes (Input (OfRows fault)) = ⊥
-IsNoModule bytes Usage = ⊥
-IsNoModule bytes ReadFault = ⊥
-IsNoModule bytes WriteFault = ⊥
-IsNoModule bytes Memory = ⊥
+pub data IsNoModule (bytes : List ℕ) (stop : Stop) : Type 0 where
+  Deep : IsTooDeep bytes → stop ≡ Input TooDeep → IsNoModule bytes stop
+  NoProject : IsNoProject bytes → stop ≡ Input NotProject → IsNoModule bytes stop
+  Unbuilt : (project : Project) → SaysProject bytes project → IsNotBuilt project → stop ≡ Input NotBuilt → IsNoModule bytes stop
+  Unaccepted : (fault : Refused) → IsRefusedText bytes fault → stop ≡ not_accepted_stop fault → IsNoModule bytes stop
 
 -- the text of the module, or why there is none
 abbrev pub IsModuleDue : List ℕ → List ℕ → Due → Type 0
@@ -106,7 +90,7 @@ IsExportDue file (Some bytes) due =
 abbrev pub IsOutputsDue : Module → List ℕ → List ℕ → Due → Type 0
 IsOutputsDue m file bytes (Writes status text) = (status ≡ Done) × IsRowsText m bytes text
 IsOutputsDue m file bytes (Stops stop about) =
-    (about ≡ file) × ((fault : RowsFault) × (fault ≢ rows_fault.Memory) × IsRowsFault m bytes fault × (stop ≡ Input (OfRows fault)))
+    ((fault : RowsFault) × IsRowsFault m bytes fault × IsDeserved (rows_stop fault) × (stop ≡ rows_stop fault)) × (about ≡ file)
 
 -- of the file of rows, by what it holds
 abbrev pub IsRowsDue : Module → List ℕ → Option (List ℕ) → Due → Type 0
@@ -116,7 +100,7 @@ IsRowsDue m file (Some bytes) due = MatchBool (nat_lt rows_length (length bytes)
 -- what is due of the rows on the valid module of some bytes, or of bytes that are none
 pub data IsValidDue (of_module of_rows bytes : List ℕ) (rows : Option (List ℕ)) (due : Due) : Type 0 where
   OnModule : (m : Module) → IsValidText bytes m → IsRowsDue m of_rows rows due → IsValidDue of_module of_rows bytes rows due
-  NoModule : (fault : ModuleFault) → fault ≢ module_fault.Memory → IsModuleFault bytes fault → due ≡ Stops (Input (OfModule fault)) of_module
+  NoModule : (fault : ModuleFault) → IsModuleFault bytes fault → IsDeserved (module_stop fault) → due ≡ Stops (module_stop fault) of_module
       → IsValidDue of_module of_rows bytes rows due
 
 -- the module comes before the rows
@@ -130,6 +114,12 @@ abbrev pub IsCommandDue : Command → Option Held → Due → Type 0
 IsCommandDue (Export file) told due = (found : Option (List ℕ)) × Finds told file found × IsExportDue file found due
 IsCommandDue (Vrun of_module of_rows) told due =
     (found : Option (List ℕ)) × (rows : Option (List ℕ)) × Finds told of_module found × Finds told of_rows rows × IsVrunDue of_module of_rows found rows due
+
+-- what else holds of the text of a command: of an export, that its module agrees with the netlist of the project that a read
+-- of the file finds, within the limit
+abbrev pub AgreesFor : Command → Option Held → List ℕ → Type 0
+AgreesFor (Export file) told text = (bytes : List ℕ) × Finds told file (Some bytes) × (length bytes ≤ project_length) × IsAgreedText bytes text
+AgreesFor (Vrun of_module of_rows) told text = Unit {0}
 
 -- the command reads the file: the rows only after a valid module
 abbrev pub Reads : Command → Option Held → List ℕ → Type 0

@@ -2,8 +2,8 @@ pub mod OneSheet
 pub mod Words
 pub mod Lines
 pub mod Stops
+pub mod Contents
 pub mod Due
 pub mod Answered
-pub mod Exported
 pub mod Outcome
 pub mod StaticText

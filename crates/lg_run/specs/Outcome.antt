@@ -1,5 +1,5 @@
 -- What a run leaves: its status, what the output took, and its line.
-use Rattle.std.specs.Prelude.{◌≡◌, ℕ, ◌≤◌, List, [], length, Option, Some, ◌⊎◌}
+use Rattle.std.specs.Prelude.{◌≡◌, ℕ, List, [], Option, Some, ◌⊎◌}
 use Rattle.lg_io.specs.Fault.{HasRisen}
 use Rattle.lg_io.specs.Files as files
 use Rattle.lg_io.specs.Sink.{Seen, Took, TookPrefix, Said}
@@ -7,9 +7,10 @@ use Rattle.lg_run.specs.declared.status.Status.{Status}
 use Rattle.lg_run.specs.declared.status.Status.TheVariants as status
 use Rattle.lg_run.specs.declared.stop.Stop.{Stop}
 use Rattle.lg_run.specs.declared.stop.Stop.TheVariants as stop
-use Rattle.lg_run.specs.Due.{Held, Finds, Due, project_length, Writes, Stops, IsDue, IsAgreedText, Reads}
+use Rattle.lg_run.specs.Contents.{Held}
+use Rattle.lg_run.specs.Due.{Due, Writes, Stops, IsDue, AgreesFor, Reads}
 use Rattle.lg_run.specs.Lines.{status_of, line_of}
-use Rattle.lg_run.specs.Words.{Command, Export, command_of}
+use Rattle.lg_run.specs.Words.{Command, command_of}
 
 -- the exit status
 abbrev pub code_of : Status → ℕ
@@ -34,18 +35,15 @@ pub record WrotePrefix (words : List (List ℕ)) (told : Option Held) (before af
   pub due : IsDue words told (Writes status text)
   pub took : TookPrefix before after text
 
--- the text that was taken is that of a module which agrees with the netlist of the project that a read of the file finds
-pub record WroteAgreed (file : List ℕ) (told : Option Held) (before after : Seen) : Type 0 where
-  pub bytes : List ℕ
+-- the text that was taken is one for which holds what does for the command
+pub record WroteAgreed (c : Command) (told : Option Held) (before after : Seen) : Type 0 where
   pub text : List ℕ
-  pub finds : Finds told file (Some bytes)
-  pub fits : length bytes ≤ project_length
-  pub agreed : IsAgreedText bytes text
+  pub agrees : AgreesFor c told text
   pub took : Took before after text
 
--- so it is where the words ask for an export
-abbrev pub AgreesIfExported : List (List ℕ) → Option Held → Seen → Seen → Type 0
-AgreesIfExported words told before after = (file : List ℕ) → command_of words ≡ Some (Export file) → WroteAgreed file told before after
+-- so it is for the command that the words ask for
+abbrev pub AgreesAsAsked : List (List ℕ) → Option Held → Seen → Seen → Type 0
+AgreesAsAsked words told before after = (c : Command) → command_of words ≡ Some c → WroteAgreed c told before after
 
 -- how a write of the text that was asked for ended: all of it was taken, or a prefix of it and the count rose
 abbrev pub Ends : Status → Seen → Seen → List ℕ → Type 0

@@ -1,9 +1,11 @@
 -- The words of the command line, and what they ask for.
-use Rattle.std.specs.Prelude.{ℕ, ◌==◌, Bool, false, ◌&&◌, not, List, [], ◌∷◌, map, Option, Some, None, if◌then◌else◌, codes, String, string_bytes}
+use Rattle.std.specs.Prelude.{ℕ, ◌==◌, Bool, false, ◌&&◌, not, List, [], ◌∷◌, map, Option, Some, None, option_and_then, if◌then◌else◌, codes, String, string_bytes}
 use Rattle.std.specs.declared.alloc.Global.{Global}
 use Rattle.std.specs.Str.{bytes_eq}
 use Rattle.lg_run.specs.declared.words.Asked.{Asked}
 use Rattle.lg_run.specs.declared.words.Asked.TheVariants as asked
+use Rattle.lg_run.specs.declared.words.Verb.{Verb}
+use Rattle.lg_run.specs.declared.words.Verb.TheVariants as verb
 
 -- the words as their bytes
 abbrev pub words_of : List (String Global) → List (List ℕ)
@@ -21,12 +23,20 @@ abbrev pub is_positional : List ℕ → Bool
 is_positional [] = false
 is_positional (c ∷ cs) = not (c == 45)
 
--- the command of a verb and its positionals, and none for other words
+-- the verb of a word
+abbrev pub verb_of : List ℕ → Option Verb
+verb_of word = if bytes_eq word (codes "export") then Some verb.Export else (if bytes_eq word (codes "vrun") then Some verb.Vrun else None)
+
+-- the command of a verb on its files, each a positional; and none for more or fewer than it has
+abbrev pub command_on : Verb → List (List ℕ) → Option Command
+command_on verb.Export (file ∷ []) = if is_positional file then Some (Export file) else None
+command_on verb.Vrun (of_module ∷ of_rows ∷ []) = if is_positional of_module && is_positional of_rows then Some (Vrun of_module of_rows) else None
+command_on _ _ = None
+
+-- the command of a verb's word and files, and none for other words
 abbrev pub command_of : List (List ℕ) → Option Command
-command_of (verb ∷ file ∷ []) = if bytes_eq verb (codes "export") && is_positional file then Some (Export file) else None
-command_of (verb ∷ of_module ∷ of_rows ∷ []) =
-    if bytes_eq verb (codes "vrun") && (is_positional of_module && is_positional of_rows) then Some (Vrun of_module of_rows) else None
-command_of _ = None
+command_of [] = None
+command_of (word ∷ files) = option_and_then (λ verb. command_on verb files) (verb_of word)
 
 -- the command that was read, where there is one
 abbrev pub command : Asked → Command

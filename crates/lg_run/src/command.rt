@@ -5,7 +5,7 @@ ghost use Rattle.lg_run.specs.Answered.{Answers};
 ghost use Rattle.lg_run.specs.Words.{command};
 
 use crate::export::export;
-use crate::stopped::Stopped;
+use crate::stop::Stopped;
 use crate::vrun::vrun;
 use crate::words::Asked;
 use lg_io::Files;
@@ -21,10 +21,7 @@ pub fn text_of<'a, F: Files>(
     ensures same_files { (F.seen files.new).held ≡ (F.seen files.old).held }
 {
     match asked {
-        Asked::Export(file) => match export(alloc, file, files) {
-            Ok(text) => Ok(text),
-            Err(stop) => Err(Stopped { stop, file }),
-        },
+        Asked::Export(file) => export(alloc, file, files),
         Asked::Vrun(of_module, of_rows) => vrun(alloc, of_module, of_rows, files),
     }
 }

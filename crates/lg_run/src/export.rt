@@ -1,22 +1,30 @@
 //! The verb `export`: the module of a circuit.
 
-ghost use Rattle.std.specs.Prelude.{◌≡◌, ◌≤◌};
-ghost use Rattle.lg_run.specs.Exported.{Makes, Exports};
+ghost use Rattle.std.specs.Prelude.{◌≡◌};
+ghost use Rattle.lg_run.specs.Answered.{Makes, Answers};
+ghost use Rattle.lg_run.specs.Words.{Export};
 
+use crate::contents::contents;
 use crate::one_sheet::one_sheet;
-use crate::stop::Stop;
+use crate::stop::{Stop, Stopped};
 use lg_circ::{GREATEST_LENGTH, read_project};
 use lg_io::Files;
 use std::alloc::Global;
 
 /// The text of the module of the circuit in a project file.
-pub fn export<F: Files>(alloc: Global, file: &str, files: &mut F) -> Result<Vec<u8>, Stop>
-    ensures exports { Exports (F.seen files.old) (F.seen files.new) file.now result }
+pub fn export<'a, F: Files>(
+    alloc: Global,
+    file: &'a str,
+    files: &mut F,
+) -> Result<Vec<u8>, Stopped<'a>>
+    ensures answers { Answers (F.seen files.old) (F.seen files.new) (Export file.now) result }
     ensures same_files { (F.seen files.new).held ≡ (F.seen files.old).held }
-    ensures never_falls { (F.seen files.old).faults ≤ (F.seen files.new).faults }
 {
-    let bytes = files.read(alloc, file, GREATEST_LENGTH)?;
-    module_text(alloc, bytes.as_slice())
+    let bytes = contents(alloc, file, GREATEST_LENGTH, files)?;
+    match module_text(alloc, bytes.as_slice()) {
+        Ok(text) => Ok(text),
+        Err(stop) => Err(stop.about(file)),
+    }
 }
 
 // The text of the module of the circuit in some bytes.

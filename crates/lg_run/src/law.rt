@@ -11,7 +11,8 @@ ghost use Rattle.lg_vrows.specs.Due.{IsValidText};
 ghost use Rattle.lg_vrows.specs.Rows.{AreBoundRows, IsDefinedRow};
 ghost use Rattle.lg_run.specs.declared.status.Status.{Status};
 ghost use Rattle.lg_run.specs.declared.status.Status.TheVariants.{Done};
-ghost use Rattle.lg_run.specs.Due.{Held, Due, Writes, module_length, rows_length, IsDue};
+ghost use Rattle.lg_run.specs.Contents.{Held};
+ghost use Rattle.lg_run.specs.Due.{Due, Writes, module_length, rows_length, IsDue};
 ghost use Rattle.lg_run.specs.StaticText.{IsStaticText};
 ghost use Rattle.lg_run.specs.Words.{Vrun, command_of};
 

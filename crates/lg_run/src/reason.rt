@@ -1,18 +1,26 @@
-//! What is written of a refused input: the refusal, and what it tells.
+//! The lines of inputs that are refused and of netlists that are not accepted.
 
 ghost use Rattle.std.specs.Prelude.{◌≤◌, ◌++◌, codes};
-ghost use Rattle.std.specs.Fmt.{decimal};
 ghost use Rattle.lg_io.specs.Sink.{Wrote};
-ghost use Rattle.lg_run.specs.Lines.{vector_text, rows_fault_text, module_fault_text, refusal_text};
+ghost use Rattle.lg_run.specs.Lines.{refusal_text, unmet_text};
 
-use crate::stop::{Refusal, put};
+use crate::line::{put, put_about, put_all, put_name, put_number};
+use crate::stop::{Refusal, Unmet};
 use itoa::Buffer;
 use lg_io::{Sink, SinkFault};
-use lg_vectors::VectorFault;
-use lg_vrows::{ModuleFault, RowsFault};
 
-/// Writes why an input is refused.
-pub fn put_reason<E: Sink>(err: &mut E, refusal: &Refusal) -> Result<(), SinkFault>
+/// Writes the line of an input that is refused.
+pub fn put_input<E: Sink>(err: &mut E, file: &str, refusal: &Refusal) -> Result<(), SinkFault>
+    ensures { Wrote result (E.seen err.old) (E.seen err.new)
+        (codes "lg: input: " ++ file.now ++ codes ": " ++ refusal_text refusal.now ++ codes "\n") }
+{
+    put_about(err, "lg: input: ", file, ": ")?;
+    put_reason(err, refusal)?;
+    put(err, "\n")
+}
+
+// Writes why an input is refused.
+fn put_reason<E: Sink>(err: &mut E, refusal: &Refusal) -> Result<(), SinkFault>
     ensures wrote { Wrote result (E.seen err.old) (E.seen err.new) (refusal_text refusal.now) }
     ensures never_falls { (E.seen err.old).faults ≤ (E.seen err.new).faults }
 {
@@ -22,62 +30,41 @@ pub fn put_reason<E: Sink>(err: &mut E, refusal: &Refusal) -> Result<(), SinkFau
         Refusal::TooDeep => put(err, "TooDeep"),
         Refusal::NotProject => put(err, "NotProject"),
         Refusal::NotBuilt => put(err, "NotBuilt"),
-        Refusal::OfModule(fault) => put_module_fault(err, fault),
-        Refusal::OfRows(fault) => put_rows_fault(err, fault),
+        Refusal::NotSubset => put(err, "NotSubset"),
+        Refusal::NotValid { rule } => put_number(err, "NotValid ", *rule),
+        Refusal::Cyclic { wire } => put_name(err, "Cyclic ", wire.as_str()),
+        Refusal::NotVector { line } => put_number(err, "NotVector ", *line),
+        Refusal::NoPin { name } => put_name(err, "NoPin ", name.as_str()),
+        Refusal::PinWidth { name } => put_name(err, "PinWidth ", name.as_str()),
+        Refusal::PinClash { name } => put_name(err, "PinClash ", name.as_str()),
+        Refusal::TooManyRows => put(err, "TooManyRows"),
+        Refusal::MissingPin { name } => put_name(err, "MissingPin ", name.as_str()),
+        Refusal::Undefined { row } => put_number(err, "Undefined ", *row),
     }
 }
 
-fn put_module_fault<E: Sink>(err: &mut E, fault: &ModuleFault) -> Result<(), SinkFault>
-    ensures wrote { Wrote result (E.seen err.old) (E.seen err.new) (module_fault_text fault.now) }
-    ensures never_falls { (E.seen err.old).faults ≤ (E.seen err.new).faults }
+/// Writes the line of a netlist that is not accepted.
+pub fn put_unmet<E: Sink>(err: &mut E, condition: &Unmet) -> Result<(), SinkFault>
+    ensures { Wrote result (E.seen err.old) (E.seen err.new)
+        (codes "lg: not accepted: " ++ unmet_text condition.now ++ codes "\n") }
 {
-    match fault {
-        ModuleFault::NotSubset => put(err, "NotSubset"),
-        ModuleFault::NotValid { rule } => put_number(err, "NotValid ", *rule),
-        ModuleFault::Cyclic { wire } => put_name(err, "Cyclic ", wire.as_str()),
-        ModuleFault::Memory => put(err, "Memory"),
+    const START: &str = "lg: not accepted: ";
+    match condition {
+        Unmet::ManyDrivers { net, first, second } => {
+            let mut digits = Buffer::new();
+            let net = digits.format(*net);
+            let (first, second) = (first.as_str(), second.as_str());
+            put_all(
+                err,
+                &[START, "ManyDrivers ", net, " ", first, " ", second, "\n"],
+            )
+        }
+        Unmet::Undriven { part, port } => {
+            put_all(
+                err,
+                &[START, "Undriven ", part.as_str(), " ", port.as_str(), "\n"],
+            )
+        }
+        Unmet::Cycle { part } => put_all(err, &[START, "Cycle ", part.as_str(), "\n"]),
     }
-}
-
-fn put_rows_fault<E: Sink>(err: &mut E, fault: &RowsFault) -> Result<(), SinkFault>
-    ensures wrote { Wrote result (E.seen err.old) (E.seen err.new) (rows_fault_text fault.now) }
-    ensures never_falls { (E.seen err.old).faults ≤ (E.seen err.new).faults }
-{
-    match fault {
-        RowsFault::Vector { fault } => put_vector_fault(err, fault),
-        RowsFault::Undefined { row } => put_number(err, "Undefined ", *row),
-        RowsFault::Memory => put(err, "Memory"),
-    }
-}
-
-fn put_vector_fault<E: Sink>(err: &mut E, fault: &VectorFault) -> Result<(), SinkFault>
-    ensures wrote { Wrote result (E.seen err.old) (E.seen err.new) (vector_text fault.now) }
-    ensures never_falls { (E.seen err.old).faults ≤ (E.seen err.new).faults }
-{
-    match fault {
-        VectorFault::NotVector { line } => put_number(err, "NotVector ", *line),
-        VectorFault::NoPin { name } => put_name(err, "NoPin ", name.as_str()),
-        VectorFault::PinWidth { name } => put_name(err, "PinWidth ", name.as_str()),
-        VectorFault::PinClash { name } => put_name(err, "PinClash ", name.as_str()),
-        VectorFault::TooManyRows => put(err, "TooManyRows"),
-        VectorFault::MissingPin { name } => put_name(err, "MissingPin ", name.as_str()),
-        VectorFault::Memory => put(err, "Memory"),
-    }
-}
-
-fn put_number<E: Sink>(err: &mut E, word: &str, number: u32) -> Result<(), SinkFault>
-    ensures wrote { Wrote result (E.seen err.old) (E.seen err.new) (word.now ++ decimal number) }
-    ensures never_falls { (E.seen err.old).faults ≤ (E.seen err.new).faults }
-{
-    let mut digits = Buffer::new();
-    let number = digits.format(number);
-    put_name(err, word, number)
-}
-
-fn put_name<E: Sink>(err: &mut E, word: &str, name: &str) -> Result<(), SinkFault>
-    ensures wrote { Wrote result (E.seen err.old) (E.seen err.new) (word.now ++ name.now) }
-    ensures never_falls { (E.seen err.old).faults ≤ (E.seen err.new).faults }
-{
-    put(err, word)?;
-    put(err, name)
 }

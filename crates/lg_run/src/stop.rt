@@ -1,42 +1,90 @@
 //! Why a run stops before its end, and the line that says so.
 
-ghost use Rattle.std.specs.Prelude.{◌≡◌, ◌≤◌, ◌++◌, codes};
-ghost use Rattle.std.specs.List.{flat_map};
+ghost use Rattle.std.specs.Prelude.{◌≡◌};
 ghost use Rattle.lg_io.specs.Sink.{Said, Wrote};
-ghost use Rattle.lg_run.specs.Lines.{status_of, refusal_text, not_accepted_text, line_of};
-ghost use Rattle.lg_run.specs.Stops.{file_stop, circ_stop, early_stop, not_accepted_stop, module_stop, rows_stop};
+ghost use Rattle.lg_run.specs.Lines.{status_of, line_of};
+ghost use Rattle.lg_run.specs.Stops.{file_stop, circ_stop, early_stop, not_accepted_stop, module_stop, vector_stop, rows_stop};
 ghost use Rattle.lg_run.specs.declared.stop.Stop.TheVariants as stop;
 
+use crate::line::{put, put_about};
 use crate::one_sheet::EarlyFault;
-use crate::reason::put_reason;
+use crate::reason::{put_input, put_unmet};
 use crate::status::Status;
-use itoa::Buffer;
 use lg_circ::CircFault;
-use lg_io::{FileFault, Sink, SinkFault, write_all};
+use lg_io::{FileFault, Sink, SinkFault};
 use lg_netlist::NotAccepted;
+use lg_text::Text;
+use lg_vectors::VectorFault;
 use lg_vrows::{ModuleFault, RowsFault};
 
-/// Why an input is refused.
+/// Why an input is refused, with what is told of it.
 #[derive(Debug, Drop)]
 pub enum Refusal {
+    /// Nothing is held under the name.
     Missing,
+    /// It has more bytes than the verb reads.
     TooLong,
+    /// Elements stand in one another too deep.
     TooDeep,
+    /// It is the text of no project.
     NotProject,
+    /// The project's circuit is not one that is built.
     NotBuilt,
-    OfModule(ModuleFault),
-    OfRows(RowsFault),
+    /// It is a text of no module of the subset.
+    NotSubset,
+    /// Its module breaks a rule: the least such, from 1 to 7.
+    NotValid { rule: u32 },
+    /// A wire or an output of its module depends on itself.
+    Cyclic { wire: Text },
+    /// The first line outside the form of vectors.
+    NotVector { line: u32 },
+    /// No pin has the name of a column.
+    NoPin { name: Text },
+    /// The pin of a column has another width.
+    PinWidth { name: Text },
+    /// Two columns have one name.
+    PinClash { name: Text },
+    /// There are more rows than are run.
+    TooManyRows,
+    /// A pin has no column.
+    MissingPin { name: Text },
+    /// The first row, from 1, with a bit that is not cared for.
+    Undefined { row: u32 },
+}
+
+/// What a netlist lacks to be accepted, with the names of the places.
+#[derive(Debug, Drop)]
+pub enum Unmet {
+    /// A net has two drivers.
+    ManyDrivers { net: u32, first: Text, second: Text },
+    /// Nothing drives what a port reads.
+    Undriven { part: Text, port: Text },
+    /// A chain of parts returns to its start.
+    Cycle { part: Text },
 }
 
 /// Why a run stops before its end.
 #[derive(Debug, Drop)]
 pub enum Stop {
+    /// The words are no command.
     Usage,
+    /// An input is refused.
     Input(Refusal),
-    NotAccepted(NotAccepted),
+    /// The netlist is not accepted.
+    NotAccepted(Unmet),
+    /// A file could not be read.
     ReadFault,
+    /// The output could not be written.
     WriteFault,
+    /// There was no memory.
     Memory,
+}
+
+/// Why a verb stopped, and the file that the stop is about.
+#[derive(Debug, Drop)]
+pub struct Stopped<'a> {
+    pub stop: Stop,
+    pub file: &'a str,
 }
 
 impl From<FileFault> for Stop {
@@ -81,8 +129,14 @@ impl From<NotAccepted> for Stop {
 
     fn from(fault: NotAccepted) -> Stop {
         match fault {
+            NotAccepted::ManyDrivers { net, first, second } => {
+                Stop::NotAccepted(Unmet::ManyDrivers { net, first, second })
+            }
+            NotAccepted::Undriven { part, port } => {
+                Stop::NotAccepted(Unmet::Undriven { part, port })
+            }
+            NotAccepted::Cycle { part } => Stop::NotAccepted(Unmet::Cycle { part }),
             NotAccepted::Memory => Stop::Memory,
-            refusal => Stop::NotAccepted(refusal),
         }
     }
 }
@@ -92,8 +146,26 @@ impl From<ModuleFault> for Stop {
 
     fn from(fault: ModuleFault) -> Stop {
         match fault {
+            ModuleFault::NotSubset => Stop::Input(Refusal::NotSubset),
+            ModuleFault::NotValid { rule } => Stop::Input(Refusal::NotValid { rule }),
+            ModuleFault::Cyclic { wire } => Stop::Input(Refusal::Cyclic { wire }),
             ModuleFault::Memory => Stop::Memory,
-            refusal => Stop::Input(Refusal::OfModule(refusal)),
+        }
+    }
+}
+
+impl From<VectorFault> for Stop {
+    ghost from_gives = { λ fault stop. stop ≡ vector_stop fault };
+
+    fn from(fault: VectorFault) -> Stop {
+        match fault {
+            VectorFault::NotVector { line } => Stop::Input(Refusal::NotVector { line }),
+            VectorFault::NoPin { name } => Stop::Input(Refusal::NoPin { name }),
+            VectorFault::PinWidth { name } => Stop::Input(Refusal::PinWidth { name }),
+            VectorFault::PinClash { name } => Stop::Input(Refusal::PinClash { name }),
+            VectorFault::TooManyRows => Stop::Input(Refusal::TooManyRows),
+            VectorFault::MissingPin { name } => Stop::Input(Refusal::MissingPin { name }),
+            VectorFault::Memory => Stop::Memory,
         }
     }
 }
@@ -103,8 +175,9 @@ impl From<RowsFault> for Stop {
 
     fn from(fault: RowsFault) -> Stop {
         match fault {
+            RowsFault::Vector { fault } => Stop::from(fault),
+            RowsFault::Undefined { row } => Stop::Input(Refusal::Undefined { row }),
             RowsFault::Memory => Stop::Memory,
-            refusal => Stop::Input(Refusal::OfRows(refusal)),
         }
     }
 }
@@ -132,6 +205,13 @@ impl Stop {
         }
     }
 
+    /// This stop, about a file.
+    pub fn about(self, file: &str) -> Stopped<'_>
+        ensures { (result.stop ≡ self) × (result.file.now ≡ file.now) }
+    {
+        Stopped { stop: self, file }
+    }
+
     /// Ends the run: says the stop's line, under the file that it is about, and gives the status. A line that is lost
     /// changes nothing.
     pub fn end<E: Sink>(self, file: &str, err: &mut E) -> Status
@@ -148,74 +228,10 @@ impl Stop {
         match self {
             Stop::Usage => put(err, "lg: usage: lg VERB [OPTIONS] ARGUMENTS\n"),
             Stop::Input(refusal) => put_input(err, file, refusal),
-            Stop::NotAccepted(refusal) => put_refusal(err, refusal),
+            Stop::NotAccepted(condition) => put_unmet(err, condition),
             Stop::ReadFault => put_about(err, "lg: read fault: ", file, "\n"),
             Stop::WriteFault => put(err, "lg: write fault\n"),
             Stop::Memory => put(err, "lg: out of memory\n"),
         }
     }
-}
-
-// Writes the line of an input that is refused.
-fn put_input<E: Sink>(err: &mut E, file: &str, refusal: &Refusal) -> Result<(), SinkFault>
-    ensures { Wrote result (E.seen err.old) (E.seen err.new)
-        (codes "lg: input: " ++ file.now ++ codes ": " ++ refusal_text refusal.now ++ codes "\n") }
-{
-    put_about(err, "lg: input: ", file, ": ")?;
-    put_reason(err, refusal)?;
-    put(err, "\n")
-}
-
-// Writes the line of a netlist that is not accepted.
-fn put_refusal<E: Sink>(err: &mut E, refusal: &NotAccepted) -> Result<(), SinkFault>
-    ensures { Wrote result (E.seen err.old) (E.seen err.new)
-        (codes "lg: not accepted: " ++ not_accepted_text refusal.now ++ codes "\n") }
-{
-    const START: &str = "lg: not accepted: ";
-    match refusal {
-        NotAccepted::ManyDrivers { net, first, second } => {
-            let mut digits = Buffer::new();
-            let net = digits.format(*net);
-            let (first, second) = (first.as_str(), second.as_str());
-            put_all(
-                err,
-                &[START, "ManyDrivers ", net, " ", first, " ", second, "\n"],
-            )
-        }
-        NotAccepted::Undriven { part, port } => {
-            put_all(
-                err,
-                &[START, "Undriven ", part.as_str(), " ", port.as_str(), "\n"],
-            )
-        }
-        NotAccepted::Cycle { part } => put_all(err, &[START, "Cycle ", part.as_str(), "\n"]),
-        NotAccepted::Memory => put_all(err, &[START, "Memory\n"]),
-    }
-}
-
-// Writes what stands before a file's name, the name, and what stands behind it.
-fn put_about<E: Sink>(err: &mut E, before: &str, file: &str, after: &str) -> Result<(), SinkFault>
-    ensures wrote { Wrote result (E.seen err.old) (E.seen err.new) (before.now ++ file.now ++ after.now) }
-    ensures never_falls { (E.seen err.old).faults ≤ (E.seen err.new).faults }
-{
-    put(err, before)?;
-    put(err, file)?;
-    put(err, after)
-}
-
-// Writes these texts, one after another.
-fn put_all<E: Sink>(err: &mut E, texts: &[&str]) -> Result<(), SinkFault>
-    ensures { Wrote result (E.seen err.old) (E.seen err.new) (flat_map (λ text. text.now) texts.now) }
-{
-    for text in texts {
-        put(err, text)?;
-    }
-    Ok(())
-}
-
-pub(crate) fn put<E: Sink>(err: &mut E, text: &str) -> Result<(), SinkFault>
-    ensures wrote { Wrote result (E.seen err.old) (E.seen err.new) text.now }
-    ensures never_falls { (E.seen err.old).faults ≤ (E.seen err.new).faults }
-{
-    write_all(err, text.as_bytes())
 }

@@ -6,7 +6,7 @@ ghost use Rattle.lg_io.specs.Sink.{Said};
 ghost use Rattle.lg_run.specs.Words.{words_of, command_of};
 ghost use Rattle.lg_run.specs.Due.{Due, IsDue};
 ghost use Rattle.lg_run.specs.Lines.{line_of};
-ghost use Rattle.lg_run.specs.Outcome.{WroteDue, WrotePrefix, AgreesIfExported, KeepsOutput, SaidLine, Follows, Ends};
+ghost use Rattle.lg_run.specs.Outcome.{WroteDue, WrotePrefix, AgreesAsAsked, KeepsOutput, SaidLine, Follows, Ends};
 ghost use Rattle.lg_run.specs.declared.stop.Stop.TheVariants as stop;
 
 use crate::command::text_of;
@@ -27,15 +27,15 @@ pub fn run<F: Files, O: Sink, E: Sink>(
     // The words are no command.
     ensures usage { (result ≡ Status.Usage) ↔ (command_of (words_of words.now) ≡ None) }
 
-    // The output has taken the text that is due for the contents that the files hold, where they tell them, and else for some;
-    // and nothing else ..
+    // The output has taken the due text and nothing else. Due is what the words and the files' contents ask for: the contents
+    // that the files hold, where they tell them, and else some.
     ensures done { result ≡ Status.Done →
         WroteDue (words_of words.now) (F.seen files.old).held result (O.seen out.old) (O.seen out.new) }
-    // .. which, of an export, is that of a valid module whose outputs, on each list of rows of defined inputs, are those of
-    // the static rows; and at each limit that is at least the longest chain's delay such rows have exactly one session table, in which
-    // each row settles within that delay, on the module's outputs.
+    // The text of an export is that of a valid module which agrees with the circuit. On each list of rows of defined inputs
+    // its outputs are those of the static rows. At each limit from the longest chain's delay on, such rows have one session
+    // table, in which each row settles within that delay on those outputs.
     ensures agrees { result ≡ Status.Done →
-        AgreesIfExported (words_of words.now) (F.seen files.old).held (O.seen out.old) (O.seen out.new) }
+        AgreesAsAsked (words_of words.now) (F.seen files.old).held (O.seen out.old) (O.seen out.new) }
 
     // A fault comes only where its count rose.
     ensures read_fault { result ≡ Status.ReadFault →

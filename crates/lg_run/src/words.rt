@@ -1,7 +1,7 @@
 //! The words of the command line, read by their short definition.
 
 ghost use Rattle.std.specs.Prelude.{◌≡◌};
-ghost use Rattle.lg_run.specs.Words.{words_of, command_of, is_positional, asks};
+ghost use Rattle.lg_run.specs.Words.{words_of, command_of, verb_of, is_positional, asks};
 
 /// What the words ask for: a verb with the names of its files.
 #[derive(Clone, Copy, Debug)]
@@ -12,29 +12,39 @@ pub enum Asked<'a> {
     Vrun(&'a str, &'a str),
 }
 
+/// A verb of the command line.
+#[derive(Clone, Copy, Debug, PartialEq, Eq)]
+enum Verb {
+    Export,
+    Vrun,
+}
+
 /// What the words ask for, where they are a verb with as many words as it has files, each of which could be a file's name
 /// and no option. None for all other words.
 pub fn read_words(words: &[String]) -> Option<Asked<'_>>
     ensures { asks result ≡ command_of (words_of words.now) }
 {
-    match words {
-        [verb, file] => {
-            if verb.as_str() == "export" && is_positional(file.as_str()) {
-                Some(Asked::Export(file.as_str()))
-            } else {
-                None
-            }
+    let [verb, files @ ..] = words else {
+        return None;
+    };
+    match (verb_of(verb.as_str())?, files) {
+        (Verb::Export, [project]) if is_positional(project.as_str()) => {
+            Some(Asked::Export(project.as_str()))
         }
-        [verb, module, rows] => {
-            if verb.as_str() == "vrun"
-                && is_positional(module.as_str())
-                && is_positional(rows.as_str())
-            {
-                Some(Asked::Vrun(module.as_str(), rows.as_str()))
-            } else {
-                None
-            }
+        (Verb::Vrun, [module, rows])
+            if is_positional(module.as_str()) && is_positional(rows.as_str()) => {
+            Some(Asked::Vrun(module.as_str(), rows.as_str()))
         }
+        _ => None,
+    }
+}
+
+fn verb_of(word: &str) -> Option<Verb>
+    ensures { result ≡ verb_of word.now }
+{
+    match word {
+        "export" => Some(Verb::Export),
+        "vrun" => Some(Verb::Vrun),
         _ => None,
     }
 }

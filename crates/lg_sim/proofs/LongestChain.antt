@@ -7,7 +7,8 @@ use Rattle.lg_netlist.specs.declared.netlist.Netlist.{Netlist}
 use Rattle.lg_netlist.specs.Acceptance.{IsAccepted}
 use Rattle.lg_netlist.specs.Chain.{Output, IsOutput, Drives, Reads, Follows, IsChain, output_delay, chain_delay, IsLongest}
 use Rattle.lg_netlist.specs.Graph.{all_outputs, bits_of, part_of as part_at, read_nets}
-use Rattle.lg_netlist.proofs.NetGraphLemmas.{nothing, Contains-cons_cases, drives_bits, reads_nets}
+use Rattle.lg_graph.proofs.Ways.{nothing, Contains-cons_cases}
+use Rattle.lg_netlist.proofs.NetGraphLemmas.{drives_bits, reads_nets}
 use Rattle.lg_netlist.proofs.OutputLemmas.{output_at, output_listed}
 use Rattle.lg_netlist.proofs.Ranks.{HasRanks, ranks, none_on_cycle}
 

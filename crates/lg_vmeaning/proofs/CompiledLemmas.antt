@@ -9,7 +9,7 @@ use Rattle.lg_vtree.specs.declared.module.Stmt.{Stmt}
 use Rattle.lg_vtree.specs.declared.module.Module.{Module}
 use Rattle.lg_vrules.specs.Things.{things, lines_of, names_of, is_input, is_output, is_reg, is_memory}
 use Rattle.lg_vrules.specs.Rules.{stmts_of, stored, stored_name}
-use Rattle.lg_vrules.specs.declared.names.Names.{Names}
+use Rattle.lg_vrules.specs.declared.names.NameIndex.{NameIndex}
 use Rattle.lg_vrules.specs.Known.{KnowsThings, width_under}
 use Rattle.lg_vrules.specs.declared.places.Places.{Places}
 use Rattle.lg_vrules.specs.Places.{KnowsPlaces, place_under, place_from}
@@ -50,16 +50,16 @@ places_are : (names : List (List ℕ)) (place : List ℕ → Option ℕ) → ((n
 places_are names place known = λ i name. known name i
 
 -- the term of an expression, by what its names stand for
-abbrev pub term_with : Names → Places → Places → Expr → Term
+abbrev pub term_with : NameIndex → Places → Places → Expr → Term
 term_with names numbers memories e = (resolved (width_under names) (place_under numbers) (place_under memories) e).term
 
 -- what is known while a module is made ready to run
-pub record KnowsModule (m : Module) (order : List ℕ) (index : Names) (numbers memories : Places) : Type 0 where
+pub record KnowsModule (m : Module) (order : List ℕ) (index : NameIndex) (numbers memories : Places) : Type 0 where
   pub named : KnowsThings (things m) index
   pub numbers_known : KnowsPlaces (known m order) numbers
   pub memories_known : KnowsPlaces (names_of is_memory m) memories
 
-terms_are : (m : Module) (order : List ℕ) (index : Names) (numbers memories : Places) → KnowsModule m order index numbers memories → (e : Expr) → term_with index numbers memories e ≡ term_of m order e
+terms_are : (m : Module) (order : List ℕ) (index : NameIndex) (numbers memories : Places) → KnowsModule m order index numbers memories → (e : Expr) → term_with index numbers memories e ≡ term_of m order e
 terms_are m order index numbers memories k e =
     λ i. (resolved (width_is m index k.named i) (places_are (known m order) (place_under numbers) k.numbers_known.known i) (places_are (names_of is_memory m) (place_under memories) k.memories_known.known i) e).term
 
@@ -81,7 +81,7 @@ known_names m order inputs registers names assigns e f g h =
     ∙ (ap (λ (some : List Assign). map (λ (l : PortLine). l.name) inputs ++ texts registers ++ map (λ (a : Assign). a.name) (filter_map (slice_get some) order)) g
     ∙ known_are m order inputs (texts registers) e f)
 
-pub equations_are : (m : Module) (order : List ℕ) (index : Names) (numbers memories : Places) → KnowsModule m order index numbers memories → (assigns : List Assign) (terms : List Term)
+pub equations_are : (m : Module) (order : List ℕ) (index : NameIndex) (numbers memories : Places) → KnowsModule m order index numbers memories → (assigns : List Assign) (terms : List Term)
     → terms ≡ map (λ (a : Assign). term_with index numbers memories a.value) (filter_map (slice_get assigns) order) → assigns ≡ m.assigns → terms ≡ map (λ (a : Assign). term_of m order a.value) (ordered m order)
 equations_are m order index numbers memories k assigns terms e f =
     e ∙ (λ i. map (λ (a : Assign). terms_are m order index numbers memories k a.value i) (filter_map (slice_get (f i)) order))
@@ -93,7 +93,7 @@ outputs_are m order numbers outputs places e f knows =
     ∙ ((λ i. map (λ (l : PortLine). place_or_0 (places_are (known m order) (place_under numbers) knows.known i) l.name) (f i))
     ∙ map_lines (place_or_0 (place_from 0 (known m order))) (lines_of is_output m))
 
-pub nexts_are : (m : Module) (order : List ℕ) (index : Names) (numbers memories : Places) → KnowsModule m order index numbers memories → (stmts : List Stmt) (places : Places) → stmts ≡ stmts_of m → KnowsPlaces (stored m) places
+pub nexts_are : (m : Module) (order : List ℕ) (index : NameIndex) (numbers memories : Places) → KnowsModule m order index numbers memories → (stmts : List Stmt) (places : Places) → stmts ≡ stmts_of m → KnowsPlaces (stored m) places
     → (registers : List (Bor (List ℕ))) (terms : List (Option Term)) → terms ≡ map (λ (n : Bor (List ℕ)). next_by (term_with index numbers memories) (stmt_with stmts places n.now)) registers
     → texts registers ≡ names_of is_reg m → terms ≡ map (λ (name : List ℕ). next_of m order (stmt_for m name)) (names_of is_reg m)
 nexts_are m order index numbers memories k stmts places same knows registers terms e f =
@@ -102,7 +102,7 @@ nexts_are m order index numbers memories k stmts places same knows registers ter
     ∙ ((λ i. map (λ (n : Bor (List ℕ)). next_by (λ x. terms_are m order index numbers memories k x i) (stmts_are m stmts places same knows n.now i)) registers)
     ∙ (map_texts next registers ∙ ap (map next) f))
 
-pub writes_are : (m : Module) (order : List ℕ) (index : Names) (numbers memories : Places) → KnowsModule m order index numbers memories → (stmts : List Stmt) (places : Places) → stmts ≡ stmts_of m → KnowsPlaces (stored m) places
+pub writes_are : (m : Module) (order : List ℕ) (index : NameIndex) (numbers memories : Places) → KnowsModule m order index numbers memories → (stmts : List Stmt) (places : Places) → stmts ≡ stmts_of m → KnowsPlaces (stored m) places
     → (filled : List (Bor (List ℕ))) (writes : List (Option Write)) → writes ≡ map (λ (n : Bor (List ℕ)). write_by (term_with index numbers memories) (stmt_with stmts places n.now)) filled
     → texts filled ≡ names_of is_memory m → writes ≡ map (λ (name : List ℕ). write_of m order (stmt_for m name)) (names_of is_memory m)
 writes_are m order index numbers memories k stmts places same knows filled writes e f =

@@ -16,7 +16,7 @@ use crate::ports::PortLine;
 use crate::stores::Stores;
 use lg_vmachine::{Machine, Term};
 use lg_vresolve::Resolver;
-use lg_vrules::{Names, Places, stmts, stored_names};
+use lg_vrules::{NameIndex, Places, stmts, stored_names};
 use lg_vtree::{Assign, Memory, Module};
 use sqlite_items::Items;
 use std::alloc::Global;
@@ -25,7 +25,7 @@ use std::alloc::Global;
 pub fn machine_of(
     alloc: Global,
     module: &Module,
-    names: &Names,
+    names: &NameIndex,
     order: &[usize],
     inputs: &[PortLine],
     outputs: &[PortLine],

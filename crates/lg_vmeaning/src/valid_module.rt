@@ -15,7 +15,7 @@ use crate::compiling::machine_of;
 use crate::ports::{PortLine, port_lines};
 use crate::starting::start;
 use lg_vmachine::{Machine, Regs};
-use lg_vrules::Names;
+use lg_vrules::NameIndex;
 use lg_vtree::{Direction, Memory, Module};
 use sqlite_items::Items;
 use std::alloc::Global;
@@ -53,7 +53,7 @@ impl Valid {
     pub(crate) fn new(
         alloc: Global,
         module: Module,
-        names: &Names,
+        names: &NameIndex,
         order: Items<usize>,
     ) -> Result<Valid, Memory>
         requires valid { IsValid «module» }
@@ -91,7 +91,8 @@ impl Valid {
 
     /// The inputs, without the clock, in order.
     pub fn inputs(&self) -> &[PortLine]
-        ensures { result.now ≡ port_lines is_input self.now }
+        ensures value { result.now ≡ port_lines is_input self.now }
+        ensures is_valid { IsValid self.now }
     {
         self.inputs.as_slice()
     }

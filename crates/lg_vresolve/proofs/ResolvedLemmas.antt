@@ -13,7 +13,7 @@ use Rattle.lg_vrules.specs.declared.names.Sort.{Sort}
 use Rattle.lg_vrules.specs.Things.{width_of, sort_of, is_memory}
 use Rattle.lg_vrules.specs.Rules.{is_of, form_reads, reads_declared, operator_width, is_shift, sum_of, binary_width, choice_width, constant_fits, form_width, expr_width}
 use Rattle.lg_vrules.specs.Depends.{form_names, names_read}
-use Rattle.lg_vrules.specs.declared.names.Names.{Names}
+use Rattle.lg_vrules.specs.declared.names.NameIndex.{NameIndex}
 use Rattle.lg_vrules.specs.Known.{width_under}
 use Rattle.lg_vrules.proofs.IndexLemmas.{width_is}
 use Rattle.lg_vmachine.specs.declared.term.Term.{Term, roll-Term}
@@ -225,7 +225,7 @@ resolved_is m kept v e w numbers place memory narrow words_within words_at reads
     (all_right numbers kept.memories (sort_of m) (width_of m) (memory_words m kept) v place memory narrow words_within words_at e reads w is_width
     (λ name read. record { small = small name read; at = at name read })).1
 
-pub is_term : (names : Names) (place memory : List ℕ → Option ℕ) (e : Expr) (r : Resolved) → r ≡ resolved (width_under names) place memory e → IsTermOf names place memory e r
+pub is_term : (names : NameIndex) (place memory : List ℕ → Option ℕ) (e : Expr) (r : Resolved) → r ≡ resolved (width_under names) place memory e → IsTermOf names place memory e r
 is_term names place memory e r is m kept v numbers w knows is_width placed =
     let right = resolved_is m kept v e w numbers place memory placed.narrow placed.words_small placed.words_at placed.declared is_width placed.small placed.at in
     let same = is ∙ ap (λ (width : List ℕ → ℕ). resolved width place memory e) (width_is m names knows) in

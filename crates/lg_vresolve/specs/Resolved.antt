@@ -6,7 +6,7 @@ use Rattle.lg_vtree.specs.declared.expr.Operator.{Operator}
 use Rattle.lg_vtree.specs.declared.expr.Expr.{Expr, fold-Expr}
 use Rattle.lg_vtree.specs.declared.expr.Expr.TheOpen.{Expr-F}
 use Rattle.lg_vtree.specs.declared.module.Module.{Module}
-use Rattle.lg_vrules.specs.declared.names.Names.{Names}
+use Rattle.lg_vrules.specs.declared.names.NameIndex.{NameIndex}
 use Rattle.lg_vrules.specs.Things.{things, width_of, sort_of, is_memory}
 use Rattle.lg_vrules.specs.Rules.{is_of, operator_width, reads_declared, expr_width}
 use Rattle.lg_vrules.specs.Depends.{names_read}
@@ -64,7 +64,7 @@ pub record ArePlaced (m : Module) (kept : Kept) (value : Valuation) (e : Expr) (
   pub words_at : (name : List ℕ) → is_of is_memory (sort_of m) name ≡ true → slice_index_or kept.memories (place_or_0 memory name) [] ≡ memory_words m kept name
 
 -- in each module with these names, and wherever they are placed so, the term has the number and the width of the expression
-abbrev pub IsTermOf : Names → (List ℕ → Option ℕ) → (List ℕ → Option ℕ) → Expr → Resolved → Type 0
+abbrev pub IsTermOf : NameIndex → (List ℕ → Option ℕ) → (List ℕ → Option ℕ) → Expr → Resolved → Type 0
 IsTermOf names place memory e r =
     (m : Module) (kept : Kept) (value : Valuation) (numbers : List ℕ) (w : ℕ) → KnowsThings (things m) names → expr_width (width_of m) e ≡ Some w → ArePlaced m kept value e numbers place memory
     → (term_number numbers kept.memories r.term ≡ number_of m kept value e) × (r.width ≡ w)

@@ -6,7 +6,7 @@ ghost use Rattle.lg_vrules.specs.Places.{place_under};
 ghost use Rattle.lg_vresolve.specs.Resolved.{resolved, resolved_join, resolved_part, resolved_not, resolved_binary, resolved_choice, place_or_0, IsTermOf};
 
 use lg_vmachine::Term;
-use lg_vrules::{Names, Places, operator_width};
+use lg_vrules::{NameIndex, Places, operator_width};
 use lg_vtree::{Expr, Memory, Name, Operator};
 use sqlite_items::Boxed;
 use std::alloc::{AllocError, Global};
@@ -21,7 +21,7 @@ pub struct Resolved {
 /// What the names in expressions stand for: their widths, the places of numbers, and those of memories.
 #[derive(Clone, Copy)]
 pub struct Resolver<'a> {
-    pub names: &'a Names,
+    pub names: &'a NameIndex,
     pub numbers: &'a Places,
     pub memories: &'a Places,
 }

@@ -16,8 +16,6 @@ pub fn rows_text(alloc: Global, module: &Valid, bytes: &[u8]) -> Result<Vec<u8>,
     ensures found { IfOk result (λ text. IsRowsText «module».now bytes.now text.items) }
     ensures fault { IfErr result (IsRowsFault «module».now bytes.now) }
 {
-    // Its contract says that the module is valid.
-    let _clocked = module.clocked();
     let vector = read_vector(alloc, bytes)?;
     let pins = input_pins(alloc, module.inputs())?;
     let places = bind_rows(alloc, &vector, pins.as_slice())?;

@@ -11,31 +11,31 @@ use Rattle.lg_vtree.specs.declared.module.Module.{Module}
 use Rattle.lg_vrules.specs.declared.names.Sort.{Sort}
 use Rattle.lg_vrules.specs.declared.names.Sort.TheVariants as sort
 use Rattle.lg_vrules.specs.declared.names.Thing.{Thing}
-use Rattle.lg_vrules.specs.declared.names.Names.{Names}
+use Rattle.lg_vrules.specs.declared.names.NameIndex.{NameIndex}
 use Rattle.lg_vrules.specs.Things.{range_width}
 use Rattle.lg_vrules.specs.Things.{is_assignable, things, port_thing, decl_thing, sort_of, width_of}
 use Rattle.lg_vrules.specs.Rules.{most_bits, is_narrow, are_narrow, first_false, are_fitting, are_used, are_assigned_once, are_kept_once, are_indexed, are_named, are_divided_safely, first_broken, all_differ, assigned, is_of, has_each, is_among}
 use Rattle.lg_vrules.specs.Known.{sort_under, width_under, KnowsThings, AreNarrow}
 
-pub sort_is : (m : Module) (index : Names) → KnowsThings (things m) index → sort_under index ≡ sort_of m
+pub sort_is : (m : Module) (index : NameIndex) → KnowsThings (things m) index → sort_under index ≡ sort_of m
 sort_is m index knows = λ i name. option_map (λ (t : Thing). t.sort) (knows.known name i)
 
-pub width_is : (m : Module) (index : Names) → KnowsThings (things m) index → width_under index ≡ width_of m
+pub width_is : (m : Module) (index : NameIndex) → KnowsThings (things m) index → width_under index ≡ width_of m
 width_is m index knows = λ i name. unwrap_or (option_map (λ (t : Thing). range_width t.high) (knows.known name i)) 0
 
-pub fits_is : (m : Module) (index : Names) → KnowsThings (things m) index → are_fitting (sort_of m) (width_of m) m ≡ are_fitting (sort_under index) (width_under index) m
+pub fits_is : (m : Module) (index : NameIndex) → KnowsThings (things m) index → are_fitting (sort_of m) (width_of m) m ≡ are_fitting (sort_under index) (width_under index) m
 fits_is m index knows = sym (λ i. are_fitting (sort_is m index knows i) (width_is m index knows i) m)
 
-pub indexed_is : (m : Module) (index : Names) → KnowsThings (things m) index → are_indexed (sort_of m) (width_of m) m ≡ are_indexed (sort_under index) (width_under index) m
+pub indexed_is : (m : Module) (index : NameIndex) → KnowsThings (things m) index → are_indexed (sort_of m) (width_of m) m ≡ are_indexed (sort_under index) (width_under index) m
 indexed_is m index knows = sym (λ i. are_indexed (sort_is m index knows i) (width_is m index knows i) m)
 
-pub used_is : (m : Module) (index : Names) → KnowsThings (things m) index → are_used (sort_of m) m ≡ are_used (sort_under index) m
+pub used_is : (m : Module) (index : NameIndex) → KnowsThings (things m) index → are_used (sort_of m) m ≡ are_used (sort_under index) m
 used_is m index knows = sym (λ i. are_used (sort_is m index knows i) m)
 
-pub assigned_is : (m : Module) (index : Names) → KnowsThings (things m) index → are_assigned_once (sort_of m) m ≡ are_assigned_once (sort_under index) m
+pub assigned_is : (m : Module) (index : NameIndex) → KnowsThings (things m) index → are_assigned_once (sort_of m) m ≡ are_assigned_once (sort_under index) m
 assigned_is m index knows = sym (λ i. are_assigned_once (sort_is m index knows i) m)
 
-pub kept_is : (m : Module) (index : Names) → KnowsThings (things m) index → are_kept_once (sort_of m) m ≡ are_kept_once (sort_under index) m
+pub kept_is : (m : Module) (index : NameIndex) → KnowsThings (things m) index → are_kept_once (sort_of m) m ≡ are_kept_once (sort_under index) m
 kept_is m index knows = sym (λ i. are_kept_once (sort_is m index knows i) m)
 
 narrow_thing : (t : List ℕ × Thing) → is_narrow t ≡ true → range_width t.1.high ≤ 128
@@ -69,7 +69,7 @@ narrow_widths m e = λ name. narrow_under (things m) name all
     all : list_all is_narrow (things m) ≡ true
     all = list_all-append is_narrow (map port_thing m.ports) (map decl_thing m.decls) ∙ (rw (list_all-map is_narrow port_thing m.ports, list_all-map is_narrow decl_thing m.decls) e)
 
-pub narrow_names : (m : Module) (index : Names) → KnowsThings (things m) index → are_narrow m ≡ true → AreNarrow index
+pub narrow_names : (m : Module) (index : NameIndex) → KnowsThings (things m) index → are_narrow m ≡ true → AreNarrow index
 narrow_names m index knows e = λ name. subst (λ (width : List ℕ → ℕ). width name ≤ 128) (sym (width_is m index knows)) (narrow_widths m e name)
 
 -- tests of which one does not hold

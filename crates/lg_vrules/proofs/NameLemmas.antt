@@ -8,7 +8,7 @@ use Rattle.std.proofs.lemmas.Bool.{and_parts}
 use Rattle.std.proofs.lemmas.List.{map-append}
 use Rattle.std.proofs.lemmas.Slice.Eq.{bytes_eq-Decides}
 use Rattle.lg_vrules.specs.declared.names.Thing.{Thing}
-use Rattle.lg_vrules.specs.declared.names.Names.{Names}
+use Rattle.lg_vrules.specs.declared.names.NameIndex.{NameIndex}
 use Rattle.lg_vrules.specs.declared.name_set.NameSet.{NameSet}
 use Rattle.lg_vrules.specs.Rules.{is_among, all_differ}
 use Rattle.lg_vrules.specs.Known.{holds, KnowsThings, KnowsNames, Adds}
@@ -153,7 +153,7 @@ lookup_more (s ∷ some) t name fresh =
     step false new e f apart rest = rw e rest
 
 -- an index takes a new name
-pub KnowsThings-more : (some : List Named) (old new : Names) (name : List ℕ) (thing : Thing) → KnowsThings some old → Adds old new name thing true → KnowsThings (some ++ (name, thing) ∷ []) new
+pub KnowsThings-more : (some : List Named) (old new : NameIndex) (name : List ℕ) (thing : Thing) → KnowsThings some old → Adds old new name thing true → KnowsThings (some ++ (name, thing) ∷ []) new
 KnowsThings-more some old new name thing knows adds =
     let none : is_none (lookup (at name) some) ≡ true = ap is_none (sym (knows.known name)) ∙ sym adds.was_new in
     let fresh : is_among name (first_names some) ≡ false = among_is some name ∙ ap not none in
@@ -164,7 +164,7 @@ KnowsThings-more some old new name thing knows adds =
     }
 
 -- an index that has a name already
-pub KnowsThings-clash : (some : List Named) (old new : Names) (name : List ℕ) (thing : Thing) → KnowsThings some old → Adds old new name thing false → all_differ (first_names (some ++ (name, thing) ∷ [])) ≡ false
+pub KnowsThings-clash : (some : List Named) (old new : NameIndex) (name : List ℕ) (thing : Thing) → KnowsThings some old → Adds old new name thing false → all_differ (first_names (some ++ (name, thing) ∷ [])) ≡ false
 KnowsThings-clash some old new name thing knows adds =
     let among : is_among name (first_names some) ≡ true = among_is some name ∙ (ap (λ (o : Option Thing). not (is_none o)) (sym (knows.known name)) ∙ ap not (sym adds.was_new)) in
     ap all_differ (names_more some (name, thing)) ∙ clash (first_names some) name among
@@ -173,5 +173,5 @@ KnowsThings-clash some old new name thing knows adds =
 pub things_front : (some more : List Named) → all_differ (first_names some) ≡ false → all_differ (first_names (some ++ more)) ≡ false
 things_front some more e = ap all_differ (map-append (λ (t : Named). t.0) some more) ∙ differ_front (first_names some) (first_names more) e
 
-pub KnowsThings-none : (index : Names) → IsEmpty index.things → KnowsThings [] index
+pub KnowsThings-none : (index : NameIndex) → IsEmpty index.things → KnowsThings [] index
 KnowsThings-none index empty = record { differ = refl; known = λ name. rw empty refl }

@@ -327,7 +327,7 @@ are_divided_safely m = list_all (λ (a : Assign). holds_inside divides_safely a.
 
 -- 7: a memory has 2, 4, 8, .. words, an index in it is as wide as its places, and there are no more than 1,048,576 words in all
 
--- the least of so many widths, from one on, whose numbers tell so many places
+-- the least width, of so many from this one on, in which each of so many addresses has a number
 abbrev pub width_from : ℕ → ℕ → ℕ → Option ℕ
 width_from zero width places = None
 width_from (suc n) width places = if places == 2 ^ width then Some width else width_from n (width + 1) places

@@ -8,19 +8,19 @@ ghost use Rattle.lg_vrules.specs.declared.fault.RuleFault.TheVariants.{Broken};
 
 use crate::divisors::are_divided_safely;
 use crate::fault::RuleFault;
-use crate::names::Names;
+use crate::names::NameIndex;
 use crate::rules::{are_narrow, ports_are_named};
 use lg_vtree::{Memory, Module};
 use std::alloc::Global;
 
 /// What the names of a module stand for, where it keeps the seven rules; else the first rule that it breaks.
-pub fn checked_names(alloc: Global, module: &Module) -> Result<Names, RuleFault>
+pub fn checked_names(alloc: Global, module: &Module) -> Result<NameIndex, RuleFault>
     ensures rules { OnOk result (first_broken «module».now ≡ None) }
     ensures index { IfOk result (λ names. IsIndex «module».now (Some names)) }
     ensures narrow { IfOk result AreNarrow }
     ensures fault { IfErr result (IsBroken «module».now) }
 {
-    let Some(names) = Names::of(alloc, module)? else {
+    let Some(names) = NameIndex::of(alloc, module)? else {
         return Err(RuleFault::Broken { rule: 1 });
     };
     match names.first_broken(alloc, module)? {
@@ -29,7 +29,7 @@ pub fn checked_names(alloc: Global, module: &Module) -> Result<Names, RuleFault>
     }
 }
 
-impl Names {
+impl NameIndex {
     // The first of the seven rules that a module of these names breaks; none where it keeps them.
     fn first_broken(&self, alloc: Global, module: &Module) -> Result<Option<u32>, Memory>
         requires { IsIndex «module».now (Some self.now) }

@@ -5,12 +5,12 @@ ghost use Rattle.std.specs.List.{list_all};
 ghost use Rattle.lg_vrules.specs.Known.{sort_under, width_under, AreNarrow};
 ghost use Rattle.lg_vrules.specs.Rules.{expr_width, is_width, constant_of, decl_fits, fill_fits, word_fits, last_place, assign_fits, stmt_fits, are_fitting};
 
-use crate::names::{Names, Sort};
+use crate::names::{NameIndex, Sort};
 use crate::rules::{fills, stmts, words};
 use crate::widths::constant_fits;
 use lg_vtree::{Assign, Constant, Decl, Expr, Fill, Module, Name, Stmt, Word};
 
-impl Names {
+impl NameIndex {
     /// Whether all widths and places of a module fit.
     pub fn are_fitting(&self, module: &Module) -> bool
         requires { AreNarrow self.now }

@@ -5,7 +5,7 @@ ghost use Rattle.std.specs.List.{list_all};
 ghost use Rattle.lg_vrules.specs.Known.{sort_under, width_under, AreNarrow};
 ghost use Rattle.lg_vrules.specs.Rules.{index_width, is_index, indexes, all_index, stmt_indexes, decl_words, decl_is_whole, are_indexed};
 
-use crate::names::Names;
+use crate::names::NameIndex;
 use crate::rules::stmts;
 use lg_vtree::{Assign, Decl, Expr, Module, Name, Stmt};
 
@@ -15,7 +15,7 @@ pub const MOST_WORDS: u128 = 1_048_576;
 /// How many bits an index of a memory has at most.
 const WIDEST_INDEX: u32 = 20;
 
-impl Names {
+impl NameIndex {
     /// Whether each memory has as many words as its indices tell, and all together are not too many.
     pub fn are_indexed(&self, module: &Module) -> bool
         requires { AreNarrow self.now }

@@ -18,7 +18,7 @@ mod widths;
 pub use broken::checked_names;
 pub use depends::{Dependence, assign_order};
 pub use fault::RuleFault;
-pub use names::{Names, Sort, Thing, sort_of_port, thing_of_decl};
+pub use names::{NameIndex, Sort, Thing, sort_of_port, thing_of_decl};
 pub use once::{filled_names, stored_names};
 pub use places::Places;
 pub use rules::{fills, stmts, words};

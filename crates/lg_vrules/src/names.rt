@@ -30,16 +30,16 @@ pub struct Thing {
 
 /// What each name of a module is declared as.
 #[derive(Drop)]
-pub struct Names {
+pub struct NameIndex {
     things: BTreeMap<String, Thing>,
 }
 
-impl Names {
+impl NameIndex {
     /// The names of a module; none where two of them are equal.
-    pub fn of(alloc: Global, module: &Module) -> Result<Option<Names>, Memory>
+    pub fn of(alloc: Global, module: &Module) -> Result<Option<NameIndex>, Memory>
         ensures { IfOk result (IsIndex «module».now) }
     {
-        let mut names = Names {
+        let mut names = NameIndex {
             things: BTreeMap::new(alloc),
         };
         for port in module.ports.as_slice() {

@@ -2,19 +2,19 @@
 
 ghost use Rattle.std.specs.Prelude.{◌≡◌, ◌||◌, not, IfOk, map};
 ghost use Rattle.std.specs.List.{list_all};
-ghost use Rattle.lg_vrules.specs.Known.{sort_under, holds, is_role};
+ghost use Rattle.lg_vrules.specs.Known.{sort_under, holds, is_target};
 ghost use Rattle.lg_vrules.specs.Things.{things, port_thing, decl_thing, is_assignable, is_reg, is_memory};
 ghost use Rattle.lg_vrules.specs.Rules.{is_of, has_each, assigned, stored_name, are_assigned_once, is_clocked, fill_is_whole, are_stored_once, are_filled_once};
 
 use crate::name_set::NameSet;
-use crate::names::{Names, Sort, sort_of_port, thing_of_decl};
+use crate::names::{NameIndex, Sort, sort_of_port, thing_of_decl};
 use crate::rules::{fills, stmts};
 use lg_vtree::{Assign, Decl, Fill, Memory, Module, Name, Port, Stmt};
 use std::alloc::Global;
 
-/// What a line of a module gives its numbers: an `assign`, a statement or a fill.
+/// What a line of a module assigns to.
 #[derive(Clone, Copy, Debug, PartialEq, Eq)]
-pub enum Role {
+pub enum Target {
     /// A wire or an output.
     Assigned,
     /// A register.
@@ -23,55 +23,55 @@ pub enum Role {
     Filled,
 }
 
-impl Role {
+impl Target {
     fn is(self, sort: Sort) -> bool
-        ensures { result ≡ is_role self sort }
+        ensures { result ≡ is_target self sort }
     {
         match self {
-            Role::Assigned => matches!(sort, Sort::Wire | Sort::Output),
-            Role::Stored => matches!(sort, Sort::Reg),
-            Role::Filled => matches!(sort, Sort::Memory(_)),
+            Target::Assigned => matches!(sort, Sort::Wire | Sort::Output),
+            Target::Stored => matches!(sort, Sort::Reg),
+            Target::Filled => matches!(sort, Sort::Memory(_)),
         }
     }
 }
 
 impl NameSet {
-    // Whether each thing of a module in this role is in the set.
-    fn has_each(&self, role: Role, module: &Module) -> bool
-        ensures { result ≡ has_each (is_role role) (holds self.now) «module».now }
+    // Whether each thing of a module in this target is in the set.
+    fn has_each(&self, target: Target, module: &Module) -> bool
+        ensures { result ≡ has_each (is_target target) (holds self.now) «module».now }
     {
-        self.has_ports(role, module.ports.as_slice())
-            && self.has_decls(role, module.decls.as_slice())
+        self.has_ports(target, module.ports.as_slice())
+            && self.has_decls(target, module.decls.as_slice())
     }
 
-    fn has_ports(&self, role: Role, ports: &[Port]) -> bool
-        ensures { result ≡ list_all (λ port. not (is_role role (port_thing port).1.sort) || holds self.now port.name) ports.now }
+    fn has_ports(&self, target: Target, ports: &[Port]) -> bool
+        ensures { result ≡ list_all (λ port. not (is_target target (port_thing port).1.sort) || holds self.now port.name) ports.now }
     {
-        ports.iter().all(|port| !role.is(sort_of_port(port)) || self.contains(port.name.as_str()))
+        ports.iter().all(|port| !target.is(sort_of_port(port)) || self.contains(port.name.as_str()))
     }
 
-    fn has_decls(&self, role: Role, decls: &[Decl]) -> bool
-        ensures { result ≡ list_all (λ decl. not (is_role role (decl_thing decl).1.sort) || holds self.now (decl_thing decl).0) decls.now }
+    fn has_decls(&self, target: Target, decls: &[Decl]) -> bool
+        ensures { result ≡ list_all (λ decl. not (is_target target (decl_thing decl).1.sort) || holds self.now (decl_thing decl).0) decls.now }
     {
-        decls.iter().all(|decl| self.has_decl(role, decl))
+        decls.iter().all(|decl| self.has_decl(target, decl))
     }
 
-    fn has_decl(&self, role: Role, decl: &Decl) -> bool
-        ensures { result ≡ (not (is_role role (decl_thing decl.now).1.sort) || holds self.now (decl_thing decl.now).0) }
+    fn has_decl(&self, target: Target, decl: &Decl) -> bool
+        ensures { result ≡ (not (is_target target (decl_thing decl.now).1.sort) || holds self.now (decl_thing decl.now).0) }
     {
         let (name, thing) = thing_of_decl(decl);
-        !role.is(thing.sort) || self.contains(name.as_str())
+        !target.is(thing.sort) || self.contains(name.as_str())
     }
 }
 
-impl Names {
+impl NameIndex {
     /// Whether each register is stored exactly once and no memory twice, at an edge of the clock.
     pub fn are_stored_once(&self, alloc: Global, module: &Module) -> Result<bool, Memory>
         ensures { IfOk result (λ answer. answer ≡ are_stored_once (sort_under self.now) «module».now) }
     {
         let names = stored_names(alloc, stmts(module))?;
         match NameSet::of(alloc, names.as_slice())? {
-            Some(stored) => Ok(stored.has_each(Role::Stored, module) && self.is_clocked(module)),
+            Some(stored) => Ok(stored.has_each(Target::Stored, module) && self.is_clocked(module)),
             None => Ok(false),
         }
     }
@@ -89,7 +89,7 @@ impl Names {
         let names = filled_names(alloc, fills(module))?;
         match NameSet::of(alloc, names.as_slice())? {
             Some(filled) => Ok(
-                self.are_whole(fills(module)) && filled.has_each(Role::Filled, module),
+                self.are_whole(fills(module)) && filled.has_each(Target::Filled, module),
             ),
             None => Ok(false),
         }
@@ -115,7 +115,7 @@ impl Names {
         let names = assigned_names(alloc, assigns)?;
         match NameSet::of(alloc, names.as_slice())? {
             Some(assigned) => Ok(
-                self.are_assignable(assigns) && assigned.has_each(Role::Assigned, module),
+                self.are_assignable(assigns) && assigned.has_each(Target::Assigned, module),
             ),
             None => Ok(false),
         }

@@ -6,7 +6,7 @@ ghost use Rattle.lg_vrules.specs.Known.{sort_under, width_under, AreNarrow};
 ghost use Rattle.lg_vrules.specs.Things.{port_thing, decl_thing};
 ghost use Rattle.lg_vrules.specs.Rules.{is_named, is_narrow, are_narrow, stmts_of, fills_of, words_of, assign_uses, stmt_uses};
 
-use crate::names::Names;
+use crate::names::NameIndex;
 use lg_vtree::{Assign, Decl, Direction, Edge, Fill, Init, Module, Port, Stmt, Word};
 
 /// Whether each input is `clk` with one bit or begins with `i_`, and each output begins with `o_`.

@@ -6,11 +6,11 @@ ghost use Rattle.lg_vrules.specs.Known.{sort_under};
 ghost use Rattle.lg_vrules.specs.Things.{is_readable, is_memory, is_reg};
 ghost use Rattle.lg_vrules.specs.Rules.{is_of, reads_declared, is_target, stmt_uses, assign_uses, is_no_clock, all_use, are_used};
 
-use crate::names::{Names, Sort, thing_of_decl};
+use crate::names::{NameIndex, Sort, thing_of_decl};
 use crate::rules::{fills, stmts, words};
 use lg_vtree::{Assign, Decl, Expr, Fill, Module, Name, Stmt, Word};
 
-impl Names {
+impl NameIndex {
     /// Whether an expression reads only what has a number, and words of memories.
     #[cycle(reads)]
     pub fn reads_declared(&self, expr: &Expr) -> bool

@@ -4,13 +4,13 @@ ghost use Rattle.std.specs.Prelude.{◌≡◌, ◌≤◌, ◌*◌, ◌^◌, nat_
 ghost use Rattle.lg_vrules.specs.Known.{width_under, AreNarrow};
 ghost use Rattle.lg_vrules.specs.Rules.{operator_width, constant_fits, constant_width, place_width, part_width, at_most_128, is_shift, binary_width, choice_width, sum_of, expr_width};
 
-use crate::names::Names;
+use crate::names::NameIndex;
 use lg_vtree::{Constant, Expr, Name, Operator};
 
 /// How many bits a wire, a register or an expression has at most.
 pub const GREATEST_WIDTH: u128 = 128;
 
-impl Names {
+impl NameIndex {
     /// The width of an expression in which all widths and places fit; none of another.
     #[cycle(widths)]
     pub fn width(&self, expr: &Expr) -> Option<u128>

@@ -12,7 +12,10 @@ use crate::{Claim, Claims, Gate, Job, Memory};
 use std::alloc::Global;
 use std::thread::{Threads, join_mut};
 
-/// Does all jobs by that many workers: item i is job i's answer. Each worker draws numbers from the claims, and a worker for which there is no thread is the caller. `Memory`: there was none, and the claim may only be dropped.
+/// Does all jobs: item i is job i's answer. Each of the workers draws numbers of jobs from the claims until none are left.
+/// Where the host starts no further thread, the caller does that worker's part itself.
+///
+/// `Memory`: there was not enough memory; the claim that was handed in can then only be dropped.
 pub fn run_all<R: Threads + Sync, J: Job, G: Gate>(
     alloc: Global,
     rt: &R,

@@ -1,27 +1,26 @@
 -- What the bytes of the file make is what is due for it.
-use Rattle.std.proofs.Common.{◌≡◌, ℕ, List, Result, Err, Vec, Global, refl, subst}
+use Rattle.std.proofs.Common.{ℕ, List, Ok, subst}
 use Rattle.std.proofs.lemmas.Result.{err_from_is_err_and}
-use Rattle.lg_io.specs.Fault.{HasRisen}
-use Rattle.lg_io.specs.declared.fault.FileFault.{FileFault}
-use Rattle.lg_io.specs.declared.fault.FileFault.TheVariants.{Failed}
-use Rattle.lg_circ.specs.declared.read.TheConstants.{GREATEST_LENGTH}
-use Rattle.lg_run.specs.Exported.{Makes}
-use Rattle.lg_run.proofs.Dues.{Exports-from_makes, Exports-from_fault}
-use Rattle.lg_run.proofs.Found.{finds_bytes}
+use Rattle.lg_run.specs.Answered.{IsUnmade, Makes}
+use Rattle.lg_run.proofs.Answering.{export_unread, export_text, export_stop}
 use Rattle.lg_run.proofs.export.export.Goals as goal
 
-pub returns-in_err-bytes-clause-exports : goal.returns-in_err-bytes-clause-exports
-returns-in_err-bytes-clause-exports g c =
+pub returns-in_err-bytes-clause-answers : goal.returns-in_err-bytes-clause-answers
+returns-in_err-bytes-clause-answers g c =
     let p = err_from_is_err_and c.from_residual.result c.from_residual.ensures.1 in
-    let before = g.F.Files.seen c.args.files.now in
-    let after = g.F.Files.seen c.read.new.self in
-    let fault = c.in_err-bytes.field-0.0 in
-    let failed : fault ≡ Failed → HasRisen before.faults after.faults = λ e. c.in_err-bytes.ensures.failed (subst (λ (f : FileFault). ◌≡◌ {A = Result (Vec ℕ Global) FileFault} (Err fault) (Err f)) e refl) in
-    rw (p.1, p.2) (Exports-from_fault before after c.args.file.now fault c.in_err-bytes.ensures.answer failed)
+    let seen = g.F.Files.seen in
+    rw (p.1, p.2) (export_unread (seen c.args.files.now) (seen c.contents.new.files) c.args.file.now c.in_err-bytes.field-0.0 c.in_err-bytes.ensures.answers.0 c.in_err-bytes.ensures.answers.1)
 
-pub returns-clause-exports : goal.returns-clause-exports
-returns-clause-exports g c =
-    let before = g.F.Files.seen c.args.files.now in
+pub returns-in-Ok-clause-answers : goal.returns-in-Ok-clause-answers
+returns-in-Ok-clause-answers g c =
+    let seen = g.F.Files.seen in
     let bytes = c.in_ok-bytes.bytes.items in
-    let made : Makes bytes c.module_text.result = subst (λ (b : List ℕ). Makes b c.module_text.result) c.as_slice.ensures.value c.module_text.ensures in
-    Exports-from_makes before (g.F.Files.seen c.read.new.self) c.args.file.now bytes c.module_text.result made (finds_bytes before.held c.args.file.now bytes GREATEST_LENGTH c.in_ok-bytes.ensures.answer)
+    export_text (seen c.args.files.now) (seen c.contents.new.files) c.args.file.now bytes c.in-Ok.text c.in_ok-bytes.ensures.answers.0
+    (subst (λ (b : List ℕ). Makes b (Ok c.in-Ok.text)) c.as_slice.ensures.value c.in-Ok.ensures)
+
+pub returns-clause-answers : goal.returns-clause-answers
+returns-clause-answers g c =
+    let seen = g.F.Files.seen in
+    let bytes = c.in_ok-bytes.bytes.items in
+    export_stop (seen c.args.files.now) (seen c.contents.new.files) c.args.file.now bytes c.about.result c.in_ok-bytes.ensures.answers.0
+    (rw c.about.ensures.0 (subst (λ (b : List ℕ). IsUnmade b c.in-Err.stop) c.as_slice.ensures.value c.in-Err.ensures)) c.about.ensures.1

@@ -10,24 +10,24 @@ use Rattle.lg_vtree.specs.declared.module.Module.{Module}
 use Rattle.lg_vtree.specs.Grammar.{IsModuleText as IsTextOf}
 use Rattle.lg_vtree.specs.Printed.{module_text}
 use Rattle.lg_run.specs.OneSheet.{IsBuilt}
-use Rattle.lg_run.proofs.Making.{Makes-circ, Makes-early, Makes-not_accepted}
+use Rattle.lg_run.proofs.Making.{unread, unbuilt, unaccepted}
 use Rattle.lg_run.proofs.export.module_text.Goals as goal
 
 pub returns-in_err-project : goal.returns-in_err-project
 returns-in_err-project c =
     let p = err_from_is_err_and c.from_residual.result c.from_residual.ensures.1 in
-    rw (p.1, p.2) (Makes-circ c.args.bytes.now c.in_err-project.field-0.0 c.in_err-project.ensures.too_long.0 c.in_err-project.ensures.too_deep c.in_err-project.ensures.not_project)
+    rw (p.1, p.2) (unread c.args.bytes.now c.in_err-project.field-0.0 c.in_err-project.ensures.too_long.0 c.in_err-project.ensures.too_deep c.in_err-project.ensures.not_project)
 
 pub returns-in_err-netlist : goal.returns-in_err-netlist
 returns-in_err-netlist c =
     let p = err_from_is_err_and c.from_residual-in_err-netlist.result c.from_residual-in_err-netlist.ensures.1 in
-    rw (p.1, p.2) (Makes-early c.args.bytes.now c.in_ok-project.project c.in_err-netlist.field-0.0 c.in_ok-project.ensures.within
+    rw (p.1, p.2) (unbuilt c.args.bytes.now c.in_ok-project.project c.in_err-netlist.field-0.0 c.in_ok-project.ensures.within
     c.in_ok-project.ensures.found c.in_err-netlist.ensures.not_built)
 
 pub returns-in_err-module : goal.returns-in_err-module
 returns-in_err-module c =
     let p = err_from_is_err_and c.from_residual-in_err-module.result c.from_residual-in_err-module.ensures.1 in
-    rw (p.1, p.2) (Makes-not_accepted c.args.bytes.now c.in_ok-project.project c.in_ok-netlist.netlist c.in_err-module.field-0.0 c.in_ok-project.ensures.within
+    rw (p.1, p.2) (unaccepted c.args.bytes.now c.in_ok-project.project c.in_ok-netlist.netlist c.in_err-module.field-0.0 c.in_ok-project.ensures.within
     c.in_ok-project.ensures.found c.in_ok-netlist.ensures.found c.in_err-module.ensures.refused)
 
 pub returns : goal.returns

@@ -49,13 +49,13 @@ moved n k places others rows some inputs e f g are =
     (subst (λ (ps : List ℕ). AllZip (AreInputs k ps) rows inputs) f (subst (λ (count : ℕ). AllZip (AreInputs count places) rows inputs) e are))
 
 pub input_pins-requires : goal.input_pins-requires
-input_pins-requires c = subst (All (λ (line : PortLine). IsMarked line.name)) (sym c.inputs.ensures) (inputs_marked c.args.«module».now c.clocked-clocked.ensures.is_valid)
+input_pins-requires c = subst (All (λ (line : PortLine). IsMarked line.name)) (sym c.inputs.ensures.value) (inputs_marked c.args.«module».now c.inputs.ensures.is_valid)
 
 pub bind_rows-requires : goal.bind_rows-requires
 bind_rows-requires c =
     let m = c.args.«module».now in
-    let pins : c.as_slice.result.now ≡ input_pins m = pins_are m c.in_ok-pins.pins c.as_slice.result.now c.inputs.result.now c.as_slice.ensures c.in_ok-pins.ensures c.inputs.ensures in
-    subst (λ (some : List PinShape). IsDistinct bytes_eq (pin_names some)) (sym pins) (pins_differ m c.clocked-clocked.ensures.is_valid)
+    let pins : c.as_slice.result.now ≡ input_pins m = pins_are m c.in_ok-pins.pins c.as_slice.result.now c.inputs.result.now c.as_slice.ensures c.in_ok-pins.ensures c.inputs.ensures.value in
+    subst (λ (some : List PinShape). IsDistinct bytes_eq (pin_names some)) (sym pins) (pins_differ m c.inputs.ensures.is_valid)
 
 pub returns-in_err-places-clause-fault : goal.returns-in_err-places-clause-fault
 returns-in_err-places-clause-fault c =
@@ -63,7 +63,7 @@ returns-in_err-places-clause-fault c =
     let columns : List Column = c.in_ok-vector.vector.columns in
     let rows : List (List CaredBits) = c.in_ok-vector.vector.rows in
     let fault : VectorFault = c.in_err-places.field-0.0 in
-    let pins : c.as_slice.result.now ≡ input_pins m = pins_are m c.in_ok-pins.pins c.as_slice.result.now c.inputs.result.now c.as_slice.ensures c.in_ok-pins.ensures c.inputs.ensures in
+    let pins : c.as_slice.result.now ≡ input_pins m = pins_are m c.in_ok-pins.pins c.as_slice.result.now c.inputs.result.now c.as_slice.ensures c.in_ok-pins.ensures c.inputs.ensures.value in
     let reason = rw pins at c.in_err-places.ensures.fault in
     let p = err_from_is_err_and c.from_residual-in_err-places.result c.from_residual-in_err-places.ensures.1 in
     rw (p.1, p.2) (unbound_fault m c.args.bytes.now columns rows fault c.in_ok-vector.ensures.found c.in_ok-vector.vector.rows_fit.few reason)
@@ -74,7 +74,7 @@ returns-in-Some-clause-fault c =
     let columns : List Column = c.in_ok-vector.vector.columns in
     let rows : List (List CaredBits) = c.in_ok-vector.vector.rows in
     let places : List ℕ = c.in_ok-places.places in
-    let pins : c.as_slice.result.now ≡ input_pins m = pins_are m c.in_ok-pins.pins c.as_slice.result.now c.inputs.result.now c.as_slice.ensures c.in_ok-pins.ensures c.inputs.ensures in
+    let pins : c.as_slice.result.now ≡ input_pins m = pins_are m c.in_ok-pins.pins c.as_slice.result.now c.inputs.result.now c.as_slice.ensures c.in_ok-pins.ensures c.inputs.ensures.value in
     let given = bound_rows m c.args.bytes.now columns rows places c.as_slice.result.now pins c.in_ok-vector.ensures.found c.in_ok-vector.vector.rows_fit.few c.in_ok-places.ensures.bound c.in_ok-places.ensures.whole in
     (given, subst (λ (some : List (List CaredBits)). IsFirstUndefined some c.in-Some.row) c.as_slice-2.ensures c.in-Some.ensures)
 
@@ -92,15 +92,15 @@ run_rows-requires c =
     let columns : List Column = c.in_ok-vector.vector.columns in
     let rows : List (List CaredBits) = c.in_ok-vector.vector.rows in
     let places : List ℕ = c.in_ok-places.places in
-    let pins : c.as_slice.result.now ≡ input_pins m = pins_are m c.in_ok-pins.pins c.as_slice.result.now c.inputs.result.now c.as_slice.ensures c.in_ok-pins.ensures c.inputs.ensures in
+    let pins : c.as_slice.result.now ≡ input_pins m = pins_are m c.in_ok-pins.pins c.as_slice.result.now c.inputs.result.now c.as_slice.ensures c.in_ok-pins.ensures c.inputs.ensures.value in
     let given = bound_rows m c.args.bytes.now columns rows places c.as_slice.result.now pins c.in_ok-vector.ensures.found c.in_ok-vector.vector.rows_fit.few c.in_ok-places.ensures.bound c.in_ok-places.ensures.whole in
     let count : c.len.result ≡ length (input_pins m) = c.len.ensures ∙ ap (λ (some : List PinShape). length some) (sym c.as_slice.ensures ∙ pins) in
     let are = moved c.len.result (length (input_pins m)) c.as_slice-3.result.now places c.as_slice-4.result.now rows c.in_ok-inputs.inputs.items count c.as_slice-3.ensures c.as_slice-4.ensures c.in_ok-inputs.ensures in
-    let fit = rows_fit (lines_of is_input m) columns places (pins_differ m c.clocked-clocked.ensures.is_valid) given.bound given.whole rows c.in_ok-inputs.inputs.items c.in_ok-vector.vector.rows_fit.each are in
+    let fit = rows_fit (lines_of is_input m) columns places (pins_differ m c.inputs.ensures.is_valid) given.bound given.whole rows c.in_ok-inputs.inputs.items c.in_ok-vector.vector.rows_fit.each are in
     subst (All (AreNumbers (lines_of is_input m))) (sym c.as_slice-5.ensures.value) fit
 
 pub print-requires : goal.print-requires
-print-requires c = subst (All IsPrinted) (sym c.outputs.ensures) (outputs_printed c.args.«module».now c.clocked-clocked.ensures.is_valid)
+print-requires c = subst (All IsPrinted) (sym c.outputs.ensures) (outputs_printed c.args.«module».now c.inputs.ensures.is_valid)
 
 pub returns-clause-found : goal.returns-clause-found
 returns-clause-found c =
@@ -109,7 +109,7 @@ returns-clause-found c =
     let rows : List (List CaredBits) = c.in_ok-vector.vector.rows in
     let places : List ℕ = c.in_ok-places.places in
     let outs : List (List ℕ) = c.in_ok-outs.outs.items in
-    let pins : c.as_slice.result.now ≡ input_pins m = pins_are m c.in_ok-pins.pins c.as_slice.result.now c.inputs.result.now c.as_slice.ensures c.in_ok-pins.ensures c.inputs.ensures in
+    let pins : c.as_slice.result.now ≡ input_pins m = pins_are m c.in_ok-pins.pins c.as_slice.result.now c.inputs.result.now c.as_slice.ensures c.in_ok-pins.ensures c.inputs.ensures.value in
     let given = bound_rows m c.args.bytes.now columns rows places c.as_slice.result.now pins c.in_ok-vector.ensures.found c.in_ok-vector.vector.rows_fit.few c.in_ok-places.ensures.bound c.in_ok-places.ensures.whole in
     let count : c.len.result ≡ length (input_pins m) = c.len.ensures ∙ ap (λ (some : List PinShape). length some) (sym c.as_slice.ensures ∙ pins) in
     let are = moved c.len.result (length (input_pins m)) c.as_slice-3.result.now places c.as_slice-4.result.now rows c.in_ok-inputs.inputs.items count c.as_slice-3.ensures c.as_slice-4.ensures c.in_ok-inputs.ensures in

@@ -17,5 +17,5 @@ pairs_again (l ∷ lines) = ap (λ (more : List (List ℕ × ℕ)). l ∷ more) 
 pub returns : goal.returns
 returns c =
     let lines = lines_of is_input c.args.self.now in
-    let same : pairs c.inputs.result.now ≡ lines = ap pairs c.inputs.ensures ∙ pairs_again lines in
+    let same : pairs c.inputs.result.now ≡ lines = ap pairs c.inputs.ensures.value ∙ pairs_again lines in
     subst (λ (some : List (List ℕ × ℕ)). IsTrue c.are_numbers.result ↔ AreNumbers some c.args.inputs.now) same c.are_numbers.ensures
