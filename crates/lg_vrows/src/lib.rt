@@ -11,7 +11,8 @@ mod text;
 
 pub use fault::{ModuleFault, RowsFault};
 pub use law::{
-    defined_rows_have_outputs, modules_have_one_answer, rows_have_one_answer, texts_are_modules_or_not, texts_are_rows_or_not,
+    defined_rows_have_outputs, modules_have_one_answer, rows_have_one_answer,
+    texts_are_modules_or_not, texts_are_rows_or_not,
 };
 pub use reading::valid_module;
 pub use rows::rows_text;
