@@ -16,7 +16,7 @@ use Rattle.lg_kinds.specs.declared.rows.Range.{Range as RangeRow}
 use Rattle.lg_kinds.specs.declared.rows.Range.TheVariants as row
 
 -- which values an attribute may have: every text, some words, the numbers from one to another, the numbers from 1 to
--- the width, the numbers of a splitter's ends, the numbers of 64 bits, the contents of a ROM
+-- the width, the numbers of a splitter's ends or `none`, the numbers of 64 bits, the contents of a ROM
 pub data Range : Type 0 where
   Any : Range
   OneOf : List (List ℕ) → Range

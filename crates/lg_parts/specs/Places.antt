@@ -81,7 +81,7 @@ fan_start lines = if lines == 2 then 10 else 5 * lines
 abbrev pub fan_y : ℕ → ℕ → ℤ
 fan_y lines k = pos ((if lines == 2 then 20 else 10) * k) -ℤ pos (fan_start lines)
 
--- how long a multiplexer with so many inputs is
+-- how far a multiplexer's inputs, or a demultiplexer's outputs, of which there are so many, stand from its single data port
 abbrev pub fan_reach : ℕ → ℕ
 fan_reach lines = if lines == 2 then 30 else (if lines == 4 then 40 else 50)
 

@@ -14,7 +14,7 @@ use std::marker::Model;
 
 /// Pending outputs of parts: which output changes at which instant. In a contract it is the list of its items, the
 /// triples of an instant, a part and one of its outputs, in ascending order and without an item twice, and the instant
-/// that it stands at. After `new` no call takes memory.
+/// that it stands at. Its room is made by `new`.
 #[derive(Drop)]
 pub struct Queue {
     instant: u64,

@@ -1,4 +1,4 @@
--- How two planes of binary digits and a width store a word. No contract of the crate speaks of this.
+-- How two planes of binary digits and a width store a word. No public contract speaks of this.
 use Rattle.std.specs.Prelude.{◌≡◌, ℕ, zero, suc, ◌+◌, ◌*◌, ◌/◌, ◌%◌, ◌^◌, ◌<◌, List, [], ◌∷◌, length, refl}
 use Rattle.std.proofs.Common.{ap, arith}
 use Rattle.std.proofs.Math.Nat.{pow-succ'}
