@@ -24,7 +24,7 @@ pub struct Outcome {
 
 // A run from a stimulus on: how many instants it took, and the evaluations before the one where it
 // stands, and with those there.
-#[derive(Debug, Drop)]
+#[derive(Drop)]
 struct Run {
     configuration: Configuration,
     took: u64,

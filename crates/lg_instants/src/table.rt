@@ -82,7 +82,7 @@ impl Model for Table {
 }
 
 // What becomes of a stimulus: it settles after so many instants in a configuration, or oscillates.
-#[derive(Debug, Drop)]
+#[derive(Drop)]
 enum Ending {
     Settled(u64, Configuration),
     Oscillates,
@@ -90,7 +90,7 @@ enum Ending {
 
 // What becomes of a row: its line and the configuration where it settled, or the phase where it
 // stops.
-#[derive(Debug, Drop)]
+#[derive(Drop)]
 enum Row {
     Done(Line, Configuration),
     Stops(Phase),
