@@ -1,5 +1,5 @@
 -- What becomes of a stimulus that is put, and of a row.
-use Rattle.std.proofs.Common.{◌≡◌, ℕ, false, List, [], ◌∷◌, length, Option, Some, sym, ◌∙◌, ap, subst}
+use Rattle.std.proofs.Common.{◌≡◌, ℕ, false, List, [], ◌∷◌, length, Option, Some, sym, subst}
 use Rattle.std.specs.Prelude.{◌==◌}
 use Rattle.lg_timing.specs.declared.settling.Settling.{Settling}
 use Rattle.lg_timing.specs.declared.settling.Settling.TheVariants.{Settled, Oscillates}
@@ -7,27 +7,16 @@ use Rattle.lg_timing.specs.Circuit.{Word, Circuit, Stimulus}
 use Rattle.lg_timing.specs.Configuration.{Configuration, staying}
 use Rattle.lg_timing.specs.Session.{Line, set_at, rise_at, HasClock}
 use Rattle.lg_timing.specs.Staying.{configuration_put, IsSettlingOn, IsLedTo}
-use Rattle.lg_timing.specs.RowByRow.{SettlesTo, OscillatesOn, read_on, TicksOn, RowLeaves}
-use Rattle.lg_instants.specs.declared.table.Ending.TheVariants.{Settled as Ends}
+use Rattle.lg_timing.specs.RowByRow.{SettlesTo, read_on, TicksOn, RowLeaves}
 use Rattle.lg_instants.specs.Stepping.{instants_of}
-use Rattle.lg_instants.specs.Rows.{EndsIn}
+use Rattle.lg_instants.specs.Rows.{ending_of, EndsIn}
 
--- one that settles leaves a configuration on which the next may be put
-pub ends-settled : (c : Circuit) (limit : ℕ) (stood : Option Configuration) (s : Stimulus) (settling : Settling) (took count : ℕ) (at : Configuration)
-    → settling ≡ Settled took count → IsSettlingOn c stood s limit settling → at ≡ staying c (configuration_put c stood s) (instants_of settling) → IsLedTo c at
-    → EndsIn c limit stood s (Ends took at)
-ends-settled c limit stood s settling took count at is settles there led = (
-  record {
-    settles = (subst (IsSettlingOn c stood s limit) is settles).0;
-    there = there ∙ ap (λ x. staying c (configuration_put c stood s) (instants_of x)) is;
-  },
-  led,
-)
-
--- one that oscillates
-pub ends-oscillates : (c : Circuit) (limit : ℕ) (stood : Option Configuration) (s : Stimulus) (settling : Settling) (after count : ℕ)
-    → settling ≡ Oscillates after count → IsSettlingOn c stood s limit settling → OscillatesOn c limit stood s
-ends-oscillates c limit stood s settling after count is settles = (after, (subst (IsSettlingOn c stood s limit) is settles).0)
+-- what becomes of a stimulus is what its outcome says
+pub ends-outcome : (c : Circuit) (limit : ℕ) (stood : Option Configuration) (s : Stimulus) (settling : Settling) (at : Configuration)
+    → IsSettlingOn c stood s limit settling → at ≡ staying c (configuration_put c stood s) (instants_of settling) → IsLedTo c at
+    → EndsIn c limit stood s (ending_of settling at)
+ends-outcome c limit stood s (Settled took count) at settles there led = (record { settles = settles.0; there = there }, led)
+ends-outcome c limit stood s (Oscillates after count) at settles there led = (after, settles.0)
 
 pub has-clock : (clocks : List ℕ) → (length clocks == 0) ≡ false → HasClock clocks
 has-clock [] some = absurd (cc some)

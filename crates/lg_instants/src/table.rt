@@ -6,10 +6,10 @@ ghost use Rattle.lg_timing.specs.Session.{stimulus};
 ghost use Rattle.lg_timing.specs.Staying.{HasStood};
 ghost use Rattle.lg_timing.specs.RowByRow.{IsTableOn};
 ghost use Rattle.lg_instants.specs.Plain.{IsWellFormed, circuit_of};
-ghost use Rattle.lg_instants.specs.Rows.{EndsIn, RowEnds};
+ghost use Rattle.lg_instants.specs.Rows.{ending_of, EndsIn, RowEnds};
 
 use crate::run::settle;
-use crate::{Behaviour, Circuit, Configuration, Stimulus, Words};
+use crate::{Behaviour, Circuit, Configuration, Outcome, Stimulus, Words};
 use lg_timing::{Phase, Settling};
 use lg_value::Bit;
 use std::alloc::{AllocError, Global};
@@ -96,6 +96,22 @@ enum Row {
     Stops(Phase),
 }
 
+impl Ending {
+    // What an outcome says of its stimulus.
+    fn of(outcome: Outcome) -> Ending
+        ensures { result ≡ ending_of outcome.settling outcome.configuration }
+    {
+        let Outcome {
+            settling,
+            configuration,
+        } = outcome;
+        match settling {
+            Settling::Settled { took, .. } => Ending::Settled(took, configuration),
+            Settling::Oscillates { .. } => Ending::Oscillates,
+        }
+    }
+}
+
 // Puts words and a clock bit on the pins.
 fn put<P: Behaviour>(
     alloc: Global,
@@ -113,10 +129,7 @@ fn put<P: Behaviour>(
 {
     let stimulus = Stimulus::new(0, Words::copy_of(alloc, words.words())?, clock);
     let outcome = settle(alloc, circuit, stood, &stimulus, limit)?;
-    Ok(match outcome.settling {
-        Settling::Settled { took, .. } => Ending::Settled(took, outcome.configuration),
-        Settling::Oscillates { .. } => Ending::Oscillates,
-    })
+    Ok(Ending::of(outcome))
 }
 
 // What becomes of a row whose words are put on what stood.
