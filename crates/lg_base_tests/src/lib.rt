@@ -14,6 +14,4 @@ mod timing;
 #[cfg(test)]
 mod timing_samples;
 #[cfg(test)]
-mod value;
-#[cfg(test)]
 mod workers;
