@@ -107,6 +107,23 @@ fn expect_net(
     Ok(())
 }
 
+// The bit of a net where the configuration of an instant of a circuit that is well formed has gone
+// on by so many.
+fn value_after(
+    rt: &impl Abort,
+    alloc: Global,
+    circuit: &Circuit<Sample>,
+    stimuli: &[Stimulus],
+    (at, count): (u32, u32),
+    net: u32,
+) -> Result<Bit, AllocError> {
+    assert!(rt; is_well_formed(circuit));
+    let (at, count) = (u64::from(at), u64::from(count));
+    let configuration = Configuration::at(alloc, circuit, stimuli, at)?;
+    let later = configuration.go_on(alloc, circuit, stimuli, at, count)?;
+    Ok(later.value(circuit, net))
+}
+
 // The table of a circuit that is well formed.
 fn table_of(
     rt: &impl Abort,
@@ -313,6 +330,29 @@ fn change_taken_back_before_it_came_out_comes_out(rt: HostRuntime) -> Result<(),
     expect_net(&rt, alloc, &line, put.as_slice(), 1, &want)?;
     let both = settled(5, 1);
     assert_eq!(rt; settling_of(&rt, alloc, &line, (ZERO, ONE), 8, 1)?, both);
+    Ok(())
+}
+
+#[test]
+fn configuration_goes_on_as_the_instants_do(rt: HostRuntime) -> Result<(), Fail> {
+    let alloc = rt.alloc();
+    let line = circuit(alloc, &[(Kind::Line5, &[0], &[1])], &[0], &[1], &[])?;
+    let put = stimuli(alloc, &[(0, ZERO), (3, ONE), (4, ZERO)])?;
+    let put = put.as_slice();
+    for (at, count, pin, want) in [
+        (0, 0, ZERO, UNKNOWN),
+        (0, 3, ONE, UNKNOWN),
+        (2, 3, ZERO, ZERO),
+        (4, 3, ZERO, ZERO),
+        (2, 6, ZERO, ONE),
+        (4, 4, ZERO, ONE),
+        (4, 5, ZERO, ZERO),
+        (8, 1, ZERO, ZERO),
+    ] {
+        assert_eq!(rt; value_after(&rt, alloc, &line, put, (at, count), 0)?, pin);
+        let found = value_after(&rt, alloc, &line, put, (at, count), 1)?;
+        assert_eq!(rt; found, want, "{count} after {at}");
+    }
     Ok(())
 }
 

@@ -3,7 +3,7 @@ use Rattle.std.proofs.Common.{◌≡◌, ℕ, zero, suc, ◌+◌, ◌<◌, ◌�
 use Rattle.std.specs.Prelude.{◌⊎◌}
 use Rattle.std.proofs.lemmas.Bool.{cases_lt, cases_Bool}
 use Rattle.lg_timing.specs.Circuit.{Circuit, Stimulus}
-use Rattle.lg_timing.specs.Settling.{is_busy, busy_count}
+use Rattle.lg_timing.specs.Settling.{is_busy, IsNextBusyAfter, busy_count}
 use Rattle.lg_timing.proofs.Stretch.{QuietUpTo}
 
 busy_count-suc : (c : Circuit) (stimuli : List Stimulus) (start n : ℕ) → busy_count c stimuli start (suc n) ≡ busy_count c stimuli start n + cond (is_busy c stimuli (start + suc n)) 1 0
@@ -57,21 +57,15 @@ busy_count_above c stimuli start n zero below busy = absurd (omega (arith, below
 busy_count_above c stimuli start n (suc m) below busy =
     omega (arith, busy_count_busy c stimuli start m busy, busy_count_mono c stimuli start n m (omega (arith, below)))
 
--- the first busy instant after one
-pub record IsFirstBusy (c : Circuit) (stimuli : List Stimulus) (t u : ℕ) : Type 0 where
-  pub later : t < u
-  pub busy : is_busy c stimuli u ≡ true
-  pub quiet : (v : ℕ) → t < v → v < u → is_busy c stimuli v ≡ false
-
 -- up to the next busy instant the count grows by one
-pub busy_count_next : (c : Circuit) (stimuli : List Stimulus) (start n m : ℕ) → IsFirstBusy c stimuli (start + n) (start + m) → busy_count c stimuli start m ≡ busy_count c stimuli start n + 1
+pub busy_count_next : (c : Circuit) (stimuli : List Stimulus) (start n m : ℕ) → IsNextBusyAfter c stimuli (start + n) (start + m) → busy_count c stimuli start m ≡ busy_count c stimuli start n + 1
 busy_count_next c stimuli start n zero first = absurd (omega (arith, first.later))
 busy_count_next c stimuli start n (suc m) first =
     busy_count_busy c stimuli start m first.busy
     ∙ ap (λ k. k + 1) (busy_count_still c stimuli start n m (omega (arith, first.later)) (λ u after inside. first.quiet u after (omega (arith, inside))))
 
 -- among the next instants none is busy, or one is the first
-pub find_busy : (c : Circuit) (stimuli : List Stimulus) (t n : ℕ) → QuietUpTo c stimuli t (t + n) ⊎ ((u : ℕ) × IsFirstBusy c stimuli t u)
+pub find_busy : (c : Circuit) (stimuli : List Stimulus) (t n : ℕ) → QuietUpTo c stimuli t (t + n) ⊎ ((u : ℕ) × IsNextBusyAfter c stimuli t u)
 find_busy c stimuli t zero = inl (λ u after inside. absurd (omega (arith, after, inside)))
 find_busy c stimuli t (suc n) =
     elim (find_busy c stimuli t n) [

@@ -5,18 +5,18 @@ use Rattle.std.proofs.lemmas.Bool.{cases_lt, le-leb, lt-leb, leb-true}
 use Rattle.std.proofs.lemmas.List.Elements.{filter_passes}
 use Rattle.lg_timing.specs.Circuit.{Circuit, Stimulus}
 use Rattle.lg_timing.specs.Instant.{silence}
-use Rattle.lg_timing.specs.Settling.{is_busy, SettlesWithin, IsSteady}
-use Rattle.lg_timing.specs.Configuration.{Configuration, configuration_at, first, next, staying, HaveDelays}
+use Rattle.lg_timing.specs.Settling.{is_busy, IsNextBusyAfter, SettlesWithin, IsSteady}
+use Rattle.lg_timing.specs.Configuration.{Configuration, configuration_at, next, staying, IsAtRest, HaveDelays}
 use Rattle.lg_timing.specs.Staying.{is_busy_on, IsNextBusy, SettlesIn, OscillatesIn, configuration_put, IsLedTo, HasStood}
 use Rattle.lg_timing.proofs.Timeline.{in_force_from}
 use Rattle.lg_timing.proofs.Stretch.{quiet_after_stretch}
-use Rattle.lg_timing.proofs.Counting.{IsFirstBusy, find_busy}
+use Rattle.lg_timing.proofs.Counting.{find_busy}
 use Rattle.lg_timing.proofs.Outcome.{settles_or_oscillates}
 use Rattle.lg_timing.proofs.LaterStimuli.{configuration_at-alike}
 use Rattle.lg_timing.proofs.ConfigurationSteps.{configuration-first}
-use Rattle.lg_timing.proofs.Rest.{staying-is, stay_later, still_when_quiet}
+use Rattle.lg_timing.proofs.Rest.{staying-is, stay_later, still_when_quiet, rest_when_quiet}
 use Rattle.lg_timing.proofs.Still.{delays-from_steady, staying-still}
-use Rattle.lg_timing.proofs.OnConfigurations.{Led, staying-led, busy-led, settles-led, oscillates-led}
+use Rattle.lg_timing.proofs.OnConfigurations.{Led, staying-led, busy-led, next-led, settles-led, oscillates-led}
 use Rattle.lg_timing.proofs.Put.{configuration-behind}
 
 -- those of some stimuli that stand at an instant or before
@@ -119,15 +119,14 @@ staying-settled greatest c k limit took n steady has settles =
     ∙ staying-still greatest c from.stimuli at steady still n
     ∙ sym (staying-led c k from.stimuli from.start took from.led)
 
--- the next busy instant, of the configuration and of the instants
-next-led : (c : Circuit) (k : Configuration) (stimuli : List Stimulus) (start after u : ℕ) → Led c k stimuli start → IsFirstBusy c stimuli (start + after) u → IsNextBusy c k after (u - start)
-next-led c k stimuli start after u led first =
-    let there : start + (u - start) ≡ u = omega (arith, first.later) in
-    record {
-      later = omega (arith, first.later);
-      busy = busy-led c k stimuli start (u - start) led (omega (arith, first.later)) ∙ ap (is_busy c stimuli) there ∙ first.busy;
-      quiet = λ n above below. busy-led c k stimuli start n led (omega (arith, above)) ∙ first.quiet (start + n) (omega (arith, above)) (omega (arith, below));
-    }
+-- what has settled is at rest
+pub rests-led : (c : Circuit) (k : Configuration) (limit took : ℕ) → HaveDelays c → IsLedTo c k → SettlesIn c k limit took → IsAtRest c (staying c k took)
+rests-led c k limit took delays has settles =
+    let from : Leads c k = leads c k delays has in
+    let at : ℕ = from.start + took in
+    let within = (settles-led c k from.stimuli from.start limit took from.led).0 settles in
+    let rests = rest_when_quiet c from.stimuli at delays (stay_later from.stimuli from.start at (omega arith) from.led.stay) within.settles.quiet in
+    subst (λ (j : Configuration). IsAtRest c j) (sym (staying-led c k from.stimuli from.start took from.led)) rests
 
 pub next_or_none : (greatest : ℕ) (c : Circuit) (k : Configuration) (after : ℕ) → All (IsSteady greatest) c.parts → IsLedTo c k
     → ((busy : ℕ) × IsNextBusy c k after busy) ⊎ ((n : ℕ) → after < n → is_busy_on c k n ≡ false)
@@ -136,5 +135,11 @@ next_or_none greatest c k after steady has =
     elim (find_busy c from.stimuli (from.start + after) greatest) [
       | inl quiet ↦ inr (quiet-led greatest c k after steady has (λ n above within.
           busy-led c k from.stimuli from.start n from.led (omega (arith, above)) ∙ quiet (from.start + n) (omega (arith, above)) (omega (arith, within))))
-      | inr found ↦ inl (found.0 - from.start, next-led c k from.stimuli from.start after found.0 from.led found.1)
+      | inr found ↦
+          let there : found.0 ≡ from.start + (found.0 - from.start) = omega (arith, found.1.later) in
+          inl (
+            found.0 - from.start,
+            (next-led c k from.stimuli from.start after (found.0 - from.start) from.led).1
+                (subst (λ t. IsNextBusyAfter c from.stimuli (from.start + after) t) there found.1),
+          )
     ]

@@ -5,9 +5,9 @@ use Rattle.std.specs.List.{list_any}
 use Rattle.std.proofs.lemmas.Bool.{both_ways}
 use Rattle.lg_timing.specs.Circuit.{Circuit, Stimulus}
 use Rattle.lg_timing.specs.Instant.{Numbered, numbered_parts, outputs_at}
-use Rattle.lg_timing.specs.Settling.{same_words, is_busy, busy_count, SettlesWithin, OscillatesPast, StayFrom}
+use Rattle.lg_timing.specs.Settling.{same_words, is_busy, IsNextBusyAfter, busy_count, SettlesWithin, OscillatesPast, StayFrom}
 use Rattle.lg_timing.specs.Configuration.{Configuration, configuration_at, staying, HaveDelays}
-use Rattle.lg_timing.specs.Staying.{shown_of, is_busy_between, is_busy_on, busy_count_on, SettlesIn, OscillatesIn}
+use Rattle.lg_timing.specs.Staying.{shown_of, is_busy_between, is_busy_on, IsNextBusy, busy_count_on, SettlesIn, OscillatesIn}
 use Rattle.lg_timing.proofs.Rest.{shown_of-is, staying-is}
 
 -- two tests that agree at each element tell the same of the list
@@ -47,6 +47,28 @@ busy-suc c k stimuli start n led =
 pub busy-led : (c : Circuit) (k : Configuration) (stimuli : List Stimulus) (start n : ℕ) → Led c k stimuli start → 1 ≤ n → is_busy_on c k n ≡ is_busy c stimuli (start + n)
 busy-led c k stimuli start zero led later = absurd (omega (arith, later))
 busy-led c k stimuli start (suc n) led later = busy-suc c k stimuli start n led
+
+-- the next busy instant, of the configuration and of the instants
+next-to : (c : Circuit) (k : Configuration) (stimuli : List Stimulus) (start after at : ℕ) → Led c k stimuli start → IsNextBusy c k after at → IsNextBusyAfter c stimuli (start + after) (start + at)
+next-to c k stimuli start after at led is =
+    record {
+      later = omega (arith, is.later);
+      busy = sym (busy-led c k stimuli start at led (omega (arith, is.later))) ∙ is.busy;
+      quiet = λ t above below.
+          let there : start + (t - start) ≡ t = omega (arith, above) in
+          ap (is_busy c stimuli) (sym there) ∙ sym (busy-led c k stimuli start (t - start) led (omega (arith, above))) ∙ is.quiet (t - start) (omega (arith, above)) (omega (arith, above, below));
+    }
+
+next-back : (c : Circuit) (k : Configuration) (stimuli : List Stimulus) (start after at : ℕ) → Led c k stimuli start → IsNextBusyAfter c stimuli (start + after) (start + at) → IsNextBusy c k after at
+next-back c k stimuli start after at led is =
+    record {
+      later = omega (arith, is.later);
+      busy = busy-led c k stimuli start at led (omega (arith, is.later)) ∙ is.busy;
+      quiet = λ n above below. busy-led c k stimuli start n led (omega (arith, above)) ∙ is.quiet (start + n) (omega (arith, above)) (omega (arith, below));
+    }
+
+pub next-led : (c : Circuit) (k : Configuration) (stimuli : List Stimulus) (start after at : ℕ) → Led c k stimuli start → IsNextBusy c k after at ↔ IsNextBusyAfter c stimuli (start + after) (start + at)
+next-led c k stimuli start after at led = (next-to c k stimuli start after at led, next-back c k stimuli start after at led)
 
 pub count-led : (c : Circuit) (k : Configuration) (stimuli : List Stimulus) (start n : ℕ) → Led c k stimuli start → busy_count_on c k n ≡ busy_count c stimuli start n
 unfolding busy_count_on busy_count

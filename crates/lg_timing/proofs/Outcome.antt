@@ -3,9 +3,9 @@ use Rattle.std.proofs.Common.{◌≡◌, ℕ, zero, suc, ◌+◌, ◌-◌, ◌<�
 use Rattle.std.specs.Prelude.{All, ◌⊎◌}
 use Rattle.std.proofs.lemmas.Bool.{cases_lt, cases_order, both_ways}
 use Rattle.lg_timing.specs.Circuit.{Circuit, Stimulus}
-use Rattle.lg_timing.specs.Settling.{is_busy, busy_count, SettlesAt, SettlesWithin, OscillatesPast, IsSteady, StayFrom}
+use Rattle.lg_timing.specs.Settling.{is_busy, IsNextBusyAfter, busy_count, SettlesAt, SettlesWithin, OscillatesPast, IsSteady, StayFrom}
 use Rattle.lg_timing.proofs.Stretch.{quiet_after_stretch}
-use Rattle.lg_timing.proofs.Counting.{IsFirstBusy, find_busy, busy_count_none, busy_count_mono, busy_count_above, busy_count_next}
+use Rattle.lg_timing.proofs.Counting.{find_busy, busy_count_none, busy_count_mono, busy_count_above, busy_count_next}
 
 -- what settles within a limit does not oscillate past it
 pub not_both_ways : (c : Circuit) (stimuli : List Stimulus) (start limit settled after : ℕ) → SettlesWithin c stimuli start limit settled → OscillatesPast c stimuli start limit after → ⊥
@@ -65,14 +65,14 @@ settled_there c stimuli start limit n left reached quiet =
       few_busy = rw back (omega (arith, reached.count));
     }
 
-busy_there : (c : Circuit) (stimuli : List Stimulus) (start limit n m : ℕ) → IsReached c stimuli start limit n 0 → IsFirstBusy c stimuli (start + n) (start + m) → OscillatesPast c stimuli start limit m
+busy_there : (c : Circuit) (stimuli : List Stimulus) (start limit n m : ℕ) → IsReached c stimuli start limit n 0 → IsNextBusyAfter c stimuli (start + n) (start + m) → OscillatesPast c stimuli start limit m
 busy_there c stimuli start limit n m reached first =
     record {
       busy = first.busy;
       number = omega (arith, reached.count, busy_count_next c stimuli start n m first);
     }
 
-reached_next : (c : Circuit) (stimuli : List Stimulus) (start limit n m left : ℕ) → IsReached c stimuli start limit n (suc left) → IsFirstBusy c stimuli (start + n) (start + m) → IsReached c stimuli start limit m left
+reached_next : (c : Circuit) (stimuli : List Stimulus) (start limit n m left : ℕ) → IsReached c stimuli start limit n (suc left) → IsNextBusyAfter c stimuli (start + n) (start + m) → IsReached c stimuli start limit m left
 reached_next c stimuli start limit n m left reached first =
     record {
       last_busy = inr first.busy;
@@ -80,10 +80,10 @@ reached_next c stimuli start limit n m left reached first =
     }
 
 -- the first busy instant, as so many after the start
-first_from_start : (c : Circuit) (stimuli : List Stimulus) (start n u : ℕ) → IsFirstBusy c stimuli (start + n) u → IsFirstBusy c stimuli (start + n) (start + (u - start))
+first_from_start : (c : Circuit) (stimuli : List Stimulus) (start n u : ℕ) → IsNextBusyAfter c stimuli (start + n) u → IsNextBusyAfter c stimuli (start + n) (start + (u - start))
 first_from_start c stimuli start n u first =
     let same : u ≡ start + (u - start) = omega (arith, first.later) in
-    subst (λ v. IsFirstBusy c stimuli (start + n) v) same first
+    subst (λ v. IsNextBusyAfter c stimuli (start + n) v) same first
 
 search_on : (greatest : ℕ) (c : Circuit) (stimuli : List Stimulus) (start limit : ℕ) → All (IsSteady greatest) c.parts → StayFrom stimuli start → (left n : ℕ) → IsReached c stimuli start limit n left → Outcome c stimuli start limit
 search_on greatest c stimuli start limit steady stay zero n reached =

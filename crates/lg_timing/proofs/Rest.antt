@@ -93,7 +93,7 @@ stay_later stimuli start t later stay k d inside =
     let stands : (get_or stimuli k d).from ≤ start = stay k d inside in
     omega (arith, stands, later)
 
-rest_when_quiet : (c : Circuit) (stimuli : List Stimulus) (t : ℕ) → HaveDelays c → StayFrom stimuli t → QuietAfter c stimuli t → IsAtRest c (configuration_at c stimuli t)
+pub rest_when_quiet : (c : Circuit) (stimuli : List Stimulus) (t : ℕ) → HaveDelays c → StayFrom stimuli t → QuietAfter c stimuli t → IsAtRest c (configuration_at c stimuli t)
 rest_when_quiet c stimuli t delays stay quiet =
     record {
       still = still_when_quiet c stimuli t quiet;

@@ -14,6 +14,12 @@ abbrev pub is_busy : Circuit → List Stimulus → ℕ → Bool
 is_busy c stimuli zero = false
 is_busy c stimuli (suc t) = list_any (λ (p : Numbered). not (same_words (outputs_at c stimuli t p) (outputs_at c stimuli (suc t) p))) (numbered_parts c)
 
+-- the next busy instant after one
+pub record IsNextBusyAfter (c : Circuit) (stimuli : List Stimulus) (after at : ℕ) : Type 0 where
+  pub later : after < at
+  pub busy : is_busy c stimuli at ≡ true
+  pub quiet : (t : ℕ) → after < t → t < at → is_busy c stimuli t ≡ false
+
 -- how many of the next instants after one are busy
 unfoldable pub busy_count : Circuit → List Stimulus → ℕ → ℕ → ℕ
 busy_count c stimuli start zero = 0

@@ -5,8 +5,8 @@ ghost use Rattle.std.specs.Prelude.{◌≡◌, ◌↔◌, ℕ, ◌+◌, ◌<◌,
 ghost use Rattle.lg_timing.specs.declared.settling.Settling.{Settling as Ending};
 ghost use Rattle.lg_timing.specs.Circuit.{Word, Circuit, Stimulus};
 ghost use Rattle.lg_timing.specs.Instant.{in_force};
-ghost use Rattle.lg_timing.specs.Settling.{is_busy, busy_count, SettlesWithin, OscillatesPast, IsSteady, StayFrom};
-ghost use Rattle.lg_timing.specs.Configuration.{Configuration, configuration_at, next, staying, SamePut, HaveDelays};
+ghost use Rattle.lg_timing.specs.Settling.{is_busy, IsNextBusyAfter, busy_count, SettlesWithin, OscillatesPast, IsSteady, StayFrom};
+ghost use Rattle.lg_timing.specs.Configuration.{Configuration, configuration_at, next, staying, SamePut, IsAtRest, HaveDelays};
 ghost use Rattle.lg_timing.specs.Evaluation.{evaluations, IsSettling};
 ghost use Rattle.lg_timing.specs.Session.{Line, Stop, Table, IsTable, GoesOn};
 ghost use Rattle.lg_timing.specs.RowByRow.{GoesOnFrom, IsTableOn};
@@ -19,6 +19,8 @@ pub fn configurations_tell_settling()
         → staying c (configuration_at c stimuli start) n ≡ configuration_at c stimuli (start + n) }
     ensures busy { (c : Circuit) (stimuli : List Stimulus) (start n : ℕ) → HaveDelays c → StayFrom stimuli start → 1 ≤ n
         → is_busy_on c (configuration_at c stimuli start) n ≡ is_busy c stimuli (start + n) }
+    ensures next { (c : Circuit) (stimuli : List Stimulus) (start after at : ℕ) → HaveDelays c → StayFrom stimuli start
+        → IsNextBusy c (configuration_at c stimuli start) after at ↔ IsNextBusyAfter c stimuli (start + after) (start + at) }
     ensures count { (c : Circuit) (stimuli : List Stimulus) (start n : ℕ) → HaveDelays c → StayFrom stimuli start
         → busy_count_on c (configuration_at c stimuli start) n ≡ busy_count c stimuli start n }
     ensures settles { (c : Circuit) (stimuli : List Stimulus) (start limit took : ℕ) → HaveDelays c → StayFrom stimuli start
@@ -65,7 +67,9 @@ pub fn configurations_settle_or_oscillate()
     ensures stretch { (greatest : ℕ) (c : Circuit) (k : Configuration) (after : ℕ) → All (IsSteady greatest) c.parts → IsLedTo c k
         → ((n : ℕ) → after < n → n ≤ after + greatest → is_busy_on c k n ≡ false)
         → (n : ℕ) → after < n → is_busy_on c k n ≡ false }
-    // Once it has settled it stays as it is.
+    // Once it has settled it is at rest, and stays as it is.
+    ensures at_rest { (c : Circuit) (k : Configuration) (limit took : ℕ) → HaveDelays c → IsLedTo c k
+        → SettlesIn c k limit took → IsAtRest c (staying c k took) }
     ensures rest { (greatest : ℕ) (c : Circuit) (k : Configuration) (limit took n : ℕ) → All (IsSteady greatest) c.parts → IsLedTo c k
         → SettlesIn c k limit took → staying c k (took + n) ≡ staying c k took }
 {}

@@ -1,4 +1,4 @@
-use Rattle.lg_timing.proofs.LedTo.{settles_or_oscillates-led, next_or_none, quiet-led, staying-settled}
+use Rattle.lg_timing.proofs.LedTo.{settles_or_oscillates-led, next_or_none, quiet-led, rests-led, staying-settled}
 use Rattle.lg_timing.proofs.OneWay.{not_both_on, settles_once_on, oscillates_once_on, next_once}
 use Rattle.lg_timing.proofs.staying_law.configurations_settle_or_oscillate.Goals as goal
 
@@ -11,5 +11,6 @@ returns g = record {
   next = next_or_none;
   one_next = next_once;
   stretch = quiet-led;
+  at_rest = rests-led;
   rest = staying-settled;
 }
