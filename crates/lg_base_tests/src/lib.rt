@@ -12,8 +12,10 @@ mod text;
 #[cfg(test)]
 mod timing;
 #[cfg(test)]
+mod timing_circuits;
+#[cfg(test)]
 mod timing_samples;
 #[cfg(test)]
-mod value;
+mod timing_script;
 #[cfg(test)]
 mod workers;

@@ -58,152 +58,108 @@ fn obey(rt: &impl Abort, queue: &mut Queue, outputs: &[u32], span: u32, step: &S
     }
 }
 
-// A new queue takes these steps.
+// A step of a script; none where the text is no step.
+fn step_of(text: &str) -> Option<Step> {
+    let (word, rest) = text.split_once(' ')?;
+    match (word, rest) {
+        ("take", "none") => Some(Step::Take(None)),
+        ("first", "none") => Some(Step::First(None)),
+        ("first", _) => Some(Step::First(Some(rest.parse::<u64>().ok()?))),
+        ("now", _) => Some(Step::Now(rest.parse::<u64>().ok()?)),
+        ("clear", _) => Some(Step::Clear(rest.parse::<u64>().ok()?)),
+        ("put", _) => {
+            let (instant, part, output) = item_of(rest)?;
+            Some(Step::Put(instant, part, output))
+        }
+        ("take", _) => Some(Step::Take(Some(item_of(rest)?))),
+        _ => None,
+    }
+}
+
+// An instant, a part and an output.
+fn item_of(text: &str) -> Option<(u64, u32, u32)> {
+    let (instant, rest) = text.split_once(' ')?;
+    let (part, output) = rest.split_once(' ')?;
+    let instant = instant.parse::<u64>().ok()?;
+    Some((
+        instant,
+        part.parse::<u32>().ok()?,
+        output.parse::<u32>().ok()?,
+    ))
+}
+
+// A new queue takes the steps of a script, with a comma between two.
 fn follow(
     rt: &impl Abort,
     alloc: Global,
     outputs: &[u32],
     span: u32,
-    steps: &[Step],
+    script: &str,
 ) -> Result<(), Memory>
     requires span { (1 ≤ span) × (span ≤ 255) }
     requires outputs { sum outputs.now ≤ 1048576 }
 {
     let mut queue = Queue::new(alloc, outputs, span)?;
-    for step in steps {
-        obey(rt, &mut queue, outputs, span, step);
+    for step in script.split(", ") {
+        match step_of(step) {
+            Some(step) => obey(rt, &mut queue, outputs, span, &step),
+            None => panic!(rt; "no step: {step}"),
+        }
     }
     Ok(())
 }
 
 #[test]
 fn items_are_taken_by_instant_then_by_part_and_output(rt: HostRuntime) -> Result<(), Fail> {
-    let one_part = [
-        Step::Put(2, 0, 1),
-        Step::Put(1, 0, 0),
-        Step::Put(2, 0, 0),
-        Step::Put(1, 0, 0),
-        Step::First(Some(1)),
-        Step::Now(0),
-        Step::Take(Some((1, 0, 0))),
-        Step::Now(1),
-        Step::Take(Some((2, 0, 0))),
-        Step::Take(Some((2, 0, 1))),
-        Step::Take(None),
-        Step::First(None),
-        Step::Now(2),
-    ];
-    follow(&rt, rt.alloc(), &[2], 3, &one_part)?;
-    let four_parts = [
-        Step::Put(0, 3, 0),
-        Step::Put(0, 0, 1),
-        Step::Put(0, 2, 1),
-        Step::Put(0, 2, 0),
-        Step::Put(0, 0, 0),
-        Step::Take(Some((0, 0, 0))),
-        Step::Take(Some((0, 0, 1))),
-        Step::Take(Some((0, 2, 0))),
-        Step::Put(0, 0, 0),
-        Step::Take(Some((0, 0, 0))),
-        Step::Take(Some((0, 2, 1))),
-        Step::Take(Some((0, 3, 0))),
-        Step::Take(None),
-        Step::Now(0),
-    ];
-    follow(&rt, rt.alloc(), &[2, 0, 2, 1], 1, &four_parts)?;
+    let one_part =
+        "put 2 0 1, put 1 0 0, put 2 0 0, put 1 0 0, first 1, now 0, take 1 0 0, now 1, take 2 0 0, \
+        take 2 0 1, take none, first none, now 2";
+    follow(&rt, rt.alloc(), &[2], 3, one_part)?;
+    let four_parts =
+        "put 0 3 0, put 0 0 1, put 0 2 1, put 0 2 0, put 0 0 0, take 0 0 0, take 0 0 1, take 0 2 0, \
+        put 0 0 0, take 0 0 0, take 0 2 1, take 0 3 0, take none, now 0";
+    follow(&rt, rt.alloc(), &[2, 0, 2, 1], 1, four_parts)?;
     Ok(())
 }
 
 #[test]
 fn an_item_put_twice_is_taken_once(rt: HostRuntime) -> Result<(), Fail> {
-    let steps = [
-        Step::Put(1, 0, 0),
-        Step::Put(1, 0, 0),
-        Step::Take(Some((1, 0, 0))),
-        Step::Take(None),
-        Step::Put(1, 0, 0),
-        Step::Put(2, 0, 0),
-        Step::Take(Some((1, 0, 0))),
-        Step::Take(Some((2, 0, 0))),
-        Step::Take(None),
-    ];
-    follow(&rt, rt.alloc(), &[1], 1, &steps)?;
+    let steps =
+        "put 1 0 0, put 1 0 0, take 1 0 0, take none, put 1 0 0, put 2 0 0, take 1 0 0, take 2 0 0, take none";
+    follow(&rt, rt.alloc(), &[1], 1, steps)?;
     Ok(())
 }
 
 #[test]
 fn the_span_is_one_or_two_hundred_and_fifty_five(rt: HostRuntime) -> Result<(), Fail> {
-    let one = [
-        Step::Put(0, 0, 0),
-        Step::Put(1, 0, 0),
-        Step::Take(Some((0, 0, 0))),
-        Step::Take(Some((1, 0, 0))),
-        Step::Put(2, 0, 0),
-        Step::Put(1, 0, 0),
-        Step::First(Some(1)),
-        Step::Take(Some((1, 0, 0))),
-        Step::Take(Some((2, 0, 0))),
-        Step::Now(2),
-    ];
-    follow(&rt, rt.alloc(), &[1], 1, &one)?;
-    let most = [
-        Step::Put(255, 1, 0),
-        Step::Put(255, 0, 0),
-        Step::Put(0, 1, 0),
-        Step::Take(Some((0, 1, 0))),
-        Step::First(Some(255)),
-        Step::Now(0),
-        Step::Take(Some((255, 0, 0))),
-        Step::Now(255),
-        Step::Put(510, 0, 0),
-        Step::Take(Some((255, 1, 0))),
-        Step::Take(Some((510, 0, 0))),
-        Step::Take(None),
-    ];
-    follow(&rt, rt.alloc(), &[1, 1], 255, &most)?;
+    let one =
+        "put 0 0 0, put 1 0 0, take 0 0 0, take 1 0 0, put 2 0 0, put 1 0 0, first 1, take 1 0 0, take 2 0 0, \
+        now 2";
+    follow(&rt, rt.alloc(), &[1], 1, one)?;
+    let most =
+        "put 255 1 0, put 255 0 0, put 0 1 0, take 0 1 0, first 255, now 0, take 255 0 0, now 255, put 510 0 0, \
+        take 255 1 0, take 510 0 0, take none";
+    follow(&rt, rt.alloc(), &[1, 1], 255, most)?;
     Ok(())
 }
 
 #[test]
 fn a_cleared_queue_stands_where_it_is_told(rt: HostRuntime) -> Result<(), Fail> {
-    let last = u64::MAX;
-    let steps = [
-        Step::Put(0, 0, 0),
-        Step::Put(3, 0, 1),
-        Step::Clear(7),
-        Step::Now(7),
-        Step::First(None),
-        Step::Put(10, 0, 1),
-        Step::Put(7, 0, 0),
-        Step::Take(Some((7, 0, 0))),
-        Step::Clear(0),
-        Step::Take(None),
-        Step::Now(0),
-        Step::Put(3, 0, 0),
-        Step::Clear(last - 3),
-        Step::Put(last, 0, 1),
-        Step::First(Some(last)),
-        Step::Take(Some((last, 0, 1))),
-        Step::Put(last, 0, 0),
-        Step::Take(Some((last, 0, 0))),
-        Step::Take(None),
-        Step::Now(last),
-    ];
-    follow(&rt, rt.alloc(), &[2], 3, &steps)?;
+    // The last instant is 2^64 - 1.
+    let steps =
+        "put 0 0 0, put 3 0 1, clear 7, now 7, first none, put 10 0 1, put 7 0 0, take 7 0 0, clear 0, take none, \
+        now 0, put 3 0 0, clear 18446744073709551612, put 18446744073709551615 0 1, first 18446744073709551615, \
+        take 18446744073709551615 0 1, put 18446744073709551615 0 0, take 18446744073709551615 0 0, take none, \
+        now 18446744073709551615";
+    follow(&rt, rt.alloc(), &[2], 3, steps)?;
     Ok(())
 }
 
 #[test]
 fn a_queue_without_outputs_is_empty(rt: HostRuntime) -> Result<(), Fail> {
-    let steps = [
-        Step::First(None),
-        Step::Take(None),
-        Step::Clear(5),
-        Step::Take(None),
-        Step::Now(5),
-    ];
-    follow(&rt, rt.alloc(), &[], 1, &steps)?;
-    follow(&rt, rt.alloc(), &[0, 0], 1, &steps)?;
+    let steps = "first none, take none, clear 5, take none, now 5";
+    follow(&rt, rt.alloc(), &[], 1, steps)?;
+    follow(&rt, rt.alloc(), &[0, 0], 1, steps)?;
     Ok(())
 }
 

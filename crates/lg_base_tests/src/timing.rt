@@ -1,6 +1,8 @@
 //! Circuits that a person worked out instant by instant.
 
+use crate::timing_circuits::*;
 use crate::timing_samples::{Kind, Sample};
+use crate::timing_script::obey;
 use lg_instants::{
     Circuit, Configuration, Nets, Phase, Port, Settling, Stimulus, Table, Words, evaluations_at,
     is_well_formed, session, settle, value_at,
@@ -16,8 +18,6 @@ const ONE: Bit = Bit::One;
 
 const UNKNOWN: Bit = Bit::Unknown;
 
-const ERROR: Bit = Bit::Error;
-
 fn ports(alloc: Global, nets: &[u32]) -> Result<Vec<Port>, AllocError> {
     let mut ports = Vec::new(alloc);
     for net in nets {
@@ -27,7 +27,7 @@ fn ports(alloc: Global, nets: &[u32]) -> Result<Vec<Port>, AllocError> {
     Ok(ports)
 }
 
-fn pins(alloc: Global, nets: &[u32]) -> Result<Vec<Nets>, AllocError> {
+pub(crate) fn pins(alloc: Global, nets: &[u32]) -> Result<Vec<Nets>, AllocError> {
     let mut pins = Vec::new(alloc);
     for net in nets {
         pins.push(Nets::new(Vec::from_slice(alloc, &[*net])?))?;
@@ -35,7 +35,12 @@ fn pins(alloc: Global, nets: &[u32]) -> Result<Vec<Nets>, AllocError> {
     Ok(pins)
 }
 
-fn part(alloc: Global, kind: Kind, inputs: &[u32], outputs: &[u32]) -> Result<Sample, AllocError> {
+pub(crate) fn part(
+    alloc: Global,
+    kind: Kind,
+    inputs: &[u32],
+    outputs: &[u32],
+) -> Result<Sample, AllocError> {
     let inputs = ports(alloc, inputs)?;
     let outputs = ports(alloc, outputs)?;
     Ok(Sample {
@@ -66,20 +71,12 @@ fn circuit(
     })
 }
 
-fn words(alloc: Global, bits: &[Bit]) -> Result<Words, AllocError> {
+pub(crate) fn words(alloc: Global, bits: &[Bit]) -> Result<Words, AllocError> {
     let mut words = Vec::new(alloc);
     for bit in bits {
         words.push(Word::fill(1, *bit))?;
     }
     Ok(Words::new(words))
-}
-
-fn rows(alloc: Global, bits: &[Bit]) -> Result<Vec<Words>, AllocError> {
-    let mut rows = Vec::new(alloc);
-    for bit in bits {
-        rows.push(words(alloc, &[*bit])?)?;
-    }
-    Ok(rows)
 }
 
 fn stimuli(alloc: Global, put: &[(u64, Bit)]) -> Result<Vec<Stimulus>, AllocError> {
@@ -91,7 +88,7 @@ fn stimuli(alloc: Global, put: &[(u64, Bit)]) -> Result<Vec<Stimulus>, AllocErro
 }
 
 // The bits of a net at instants 0, 1 and so on.
-fn expect_net(
+pub(crate) fn expect_net(
     rt: &impl Abort,
     alloc: Global,
     circuit: &Circuit<Sample>,
@@ -138,7 +135,7 @@ fn table_of(
 
 // What becomes of a second stimulus of a circuit that is well formed, where the first has stood
 // from 0 up to an instant.
-fn settling_of(
+pub(crate) fn settling_of(
     rt: &impl Abort,
     alloc: Global,
     circuit: &Circuit<Sample>,
@@ -155,7 +152,7 @@ fn settling_of(
 }
 
 // What becomes of bits that are put one after another, each where the one before has settled.
-fn expect_settlings(
+pub(crate) fn expect_settlings(
     rt: &impl Abort,
     alloc: Global,
     circuit: &Circuit<Sample>,
@@ -173,16 +170,8 @@ fn expect_settlings(
     Ok(())
 }
 
-fn settled(took: u64, evaluations: u64) -> Settling {
-    Settling::Settled { took, evaluations }
-}
-
-fn oscillates(busy: u64, evaluations: u64) -> Settling {
-    Settling::Oscillates { busy, evaluations }
-}
-
 // How many parts of a circuit that is well formed have an evaluation at instants 0, 1 and so on.
-fn expect_evaluations(
+pub(crate) fn expect_evaluations(
     rt: &impl Abort,
     alloc: Global,
     circuit: &Circuit<Sample>,
@@ -197,10 +186,10 @@ fn expect_evaluations(
     Ok(())
 }
 
-type Ticks = Option<(u64, u64)>;
+pub(crate) type Ticks = Option<(u64, u64)>;
 
 // The lines of a table, each with the first output, and where it stops.
-fn expect_table(
+pub(crate) fn expect_table(
     rt: &impl Abort,
     alloc: Global,
     circuit: &Circuit<Sample>,
@@ -223,114 +212,22 @@ fn expect_table(
 
 #[test]
 fn not_gate_settles_in_one_instant(rt: HostRuntime) -> Result<(), Fail> {
-    let alloc = rt.alloc();
-    let gate = circuit(alloc, &[(Kind::Not, &[0], &[1])], &[0], &[1], &[])?;
-    let put = stimuli(alloc, &[(0, ZERO), (2, ONE)])?;
-    let want = [UNKNOWN, ONE, ONE, ZERO, ZERO];
-    expect_net(&rt, alloc, &gate, put.as_slice(), 1, &want)?;
-    expect_evaluations(&rt, alloc, &gate, put.as_slice(), &[1, 0, 1, 0, 0])?;
-    expect_net(
-        &rt,
-        alloc,
-        &gate,
-        put.as_slice(),
-        0,
-        &[ZERO, ZERO, ONE, ONE],
-    )?;
-    let each = [(ZERO, settled(1, 1)), (ONE, settled(1, 1))];
-    expect_settlings(&rt, alloc, &gate, 1, &each)?;
-    let rows = rows(alloc, &[ZERO, ONE])?;
-    let lines = [(ONE, 1, None), (ZERO, 1, None)];
-    expect_table(&rt, alloc, &gate, rows.as_slice(), 1, &lines, None)?;
-    let stop = Some((1, Phase::Settle));
-    expect_table(&rt, alloc, &gate, rows.as_slice(), 0, &[], stop)
+    obey(&rt, rt.alloc(), NOT_GATE)
 }
 
 #[test]
 fn change_runs_down_a_chain(rt: HostRuntime) -> Result<(), Fail> {
-    let alloc = rt.alloc();
-    let parts: [(Kind, &[u32], &[u32]); 4] = [
-        (Kind::Not, &[0], &[1]),
-        (Kind::Not, &[1], &[2]),
-        (Kind::Not, &[2], &[3]),
-        (Kind::Not, &[3], &[4]),
-    ];
-    let chain = circuit(alloc, &parts, &[0], &[4], &[])?;
-    let put = stimuli(alloc, &[(0, ZERO), (5, ONE)])?;
-    let want: [[Bit; 11]; 4] = [
-        [
-            UNKNOWN, ONE, ONE, ONE, ONE, ONE, ZERO, ZERO, ZERO, ZERO, ZERO,
-        ],
-        [
-            UNKNOWN, ERROR, ZERO, ZERO, ZERO, ZERO, ZERO, ONE, ONE, ONE, ONE,
-        ],
-        [
-            UNKNOWN, ERROR, ERROR, ONE, ONE, ONE, ONE, ONE, ZERO, ZERO, ZERO,
-        ],
-        [
-            UNKNOWN, ERROR, ERROR, ERROR, ZERO, ZERO, ZERO, ZERO, ZERO, ONE, ONE,
-        ],
-    ];
-    expect_net(&rt, alloc, &chain, put.as_slice(), 1, &want[0])?;
-    expect_net(&rt, alloc, &chain, put.as_slice(), 2, &want[1])?;
-    expect_net(&rt, alloc, &chain, put.as_slice(), 3, &want[2])?;
-    expect_net(&rt, alloc, &chain, put.as_slice(), 4, &want[3])?;
-    let lines = [(ZERO, 4, None), (ONE, 4, None)];
-    let both = rows(alloc, &[ZERO, ONE])?;
-    expect_table(&rt, alloc, &chain, both.as_slice(), 4, &lines, None)?;
-    let stop = Some((1, Phase::Settle));
-    expect_table(&rt, alloc, &chain, both.as_slice(), 3, &[], stop)?;
-    expect_evaluations(&rt, alloc, &chain, put.as_slice(), &[4, 3, 1, 1, 0])?;
-    let each = [
-        (ZERO, settled(4, 9)),
-        (ONE, settled(4, 4)),
-        (ONE, settled(0, 0)),
-    ];
-    expect_settlings(&rt, alloc, &chain, 4, &each)?;
-    expect_settlings(&rt, alloc, &chain, 3, &[(ZERO, oscillates(4, 9))])
+    obey(&rt, rt.alloc(), CHAIN_OF_FOUR)
 }
 
 #[test]
 fn pulse_shorter_than_a_delay_passes_a_chain(rt: HostRuntime) -> Result<(), Fail> {
-    let alloc = rt.alloc();
-    let parts: [(Kind, &[u32], &[u32]); 3] = [
-        (Kind::Not, &[0], &[1]),
-        (Kind::Line3, &[1], &[2]),
-        (Kind::Line5, &[2], &[3]),
-    ];
-    let chain = circuit(alloc, &parts, &[0], &[3], &[])?;
-    let put = stimuli(alloc, &[(0, ONE), (2, ZERO), (4, ONE)])?;
-    let not = [UNKNOWN, ZERO, ZERO, ONE, ONE, ZERO, ZERO];
-    let line = [
-        UNKNOWN, UNKNOWN, UNKNOWN, UNKNOWN, ZERO, ZERO, ONE, ONE, ZERO, ZERO,
-    ];
-    let last = [
-        UNKNOWN, UNKNOWN, UNKNOWN, UNKNOWN, UNKNOWN, UNKNOWN, UNKNOWN, UNKNOWN, UNKNOWN, ZERO,
-        ZERO, ONE, ONE, ZERO, ZERO,
-    ];
-    expect_net(&rt, alloc, &chain, put.as_slice(), 1, &not)?;
-    expect_net(&rt, alloc, &chain, put.as_slice(), 2, &line)?;
-    expect_net(&rt, alloc, &chain, put.as_slice(), 3, &last)?;
-    let lines = [(ONE, 9, None), (ZERO, 9, None)];
-    let rows = rows(alloc, &[ZERO, ONE])?;
-    expect_table(&rt, alloc, &chain, rows.as_slice(), 3, &lines, None)?;
-    let took = settled(9, 3);
-    assert_eq!(rt; settling_of(&rt, alloc, &chain, (ZERO, ONE), 19, 3)?, took);
-    Ok(())
+    obey(&rt, rt.alloc(), CHAIN_OF_DELAYS)
 }
 
 #[test]
 fn change_taken_back_before_it_came_out_comes_out(rt: HostRuntime) -> Result<(), Fail> {
-    let alloc = rt.alloc();
-    let line = circuit(alloc, &[(Kind::Line5, &[0], &[1])], &[0], &[1], &[])?;
-    let put = stimuli(alloc, &[(0, ZERO), (3, ONE), (4, ZERO)])?;
-    let want = [
-        UNKNOWN, UNKNOWN, UNKNOWN, UNKNOWN, UNKNOWN, ZERO, ZERO, ZERO, ONE, ZERO,
-    ];
-    expect_net(&rt, alloc, &line, put.as_slice(), 1, &want)?;
-    let both = settled(5, 1);
-    assert_eq!(rt; settling_of(&rt, alloc, &line, (ZERO, ONE), 8, 1)?, both);
-    Ok(())
+    obey(&rt, rt.alloc(), CHANGE_TAKEN_BACK)
 }
 
 #[test]
@@ -358,160 +255,42 @@ fn configuration_goes_on_as_the_instants_do(rt: HostRuntime) -> Result<(), Fail>
 
 #[test]
 fn nand_loop_toggles_at_each_instant(rt: HostRuntime) -> Result<(), Fail> {
-    let alloc = rt.alloc();
-    let ring = circuit(alloc, &[(Kind::Nand, &[0, 1], &[1])], &[0], &[1], &[])?;
-    let put = stimuli(alloc, &[(0, ZERO), (4, ONE)])?;
-    let want = [UNKNOWN, ONE, ONE, ONE, ONE, ZERO, ONE, ZERO];
-    expect_net(&rt, alloc, &ring, put.as_slice(), 1, &want)?;
-    let past = oscillates(4, 4);
-    assert_eq!(rt; settling_of(&rt, alloc, &ring, (ZERO, ONE), 3, 3)?, past);
-    Ok(())
+    obey(&rt, rt.alloc(), NAND_LOOP)
 }
 
 #[test]
 fn loop_oscillates_where_a_pin_enables_it(rt: HostRuntime) -> Result<(), Fail> {
-    let alloc = rt.alloc();
-    let parts: [(Kind, &[u32], &[u32]); 2] = [(Kind::And, &[0, 2], &[1]), (Kind::Not, &[1], &[2])];
-    let ring = circuit(alloc, &parts, &[0], &[1], &[])?;
-    let put = stimuli(alloc, &[(0, ZERO), (3, ONE)])?;
-    let and = [UNKNOWN, ZERO, ZERO, ZERO, ONE, ONE, ZERO, ZERO, ONE];
-    let not = [UNKNOWN, ERROR, ONE, ONE, ONE, ZERO, ZERO, ONE, ONE];
-    expect_net(&rt, alloc, &ring, put.as_slice(), 1, &and)?;
-    expect_net(&rt, alloc, &ring, put.as_slice(), 2, &not)?;
-    for limit in [2, 3, 100] {
-        let rows = rows(alloc, &[ZERO, ONE, ZERO])?;
-        let stop = Some((2, Phase::Settle));
-        expect_table(
-            &rt,
-            alloc,
-            &ring,
-            rows.as_slice(),
-            limit,
-            &[(ZERO, 2, None)],
-            stop,
-        )?;
-    }
-    let rows = rows(alloc, &[ZERO])?;
-    expect_table(
-        &rt,
-        alloc,
-        &ring,
-        rows.as_slice(),
-        1,
-        &[],
-        Some((1, Phase::Settle)),
-    )
+    obey(&rt, rt.alloc(), ENABLED_LOOP)
 }
 
 #[test]
 fn two_gates_on_one_net_disagree(rt: HostRuntime) -> Result<(), Fail> {
-    let alloc = rt.alloc();
-    let parts: [(Kind, &[u32], &[u32]); 2] = [(Kind::Not, &[0], &[2]), (Kind::Not, &[1], &[2])];
-    let table = [
-        (ZERO, ZERO, ONE),
-        (ZERO, ONE, ERROR),
-        (ONE, ZERO, ERROR),
-        (ONE, ONE, ZERO),
-        (ONE, UNKNOWN, ERROR),
-    ];
-    for (a, b, want) in table {
-        let both = circuit(alloc, &parts, &[0, 1], &[2], &[])?;
-        let mut rows = Vec::new(alloc);
-        rows.push(words(alloc, &[a, b])?)?;
-        expect_table(
-            &rt,
-            alloc,
-            &both,
-            rows.as_slice(),
-            9,
-            &[(want, 1, None)],
-            None,
-        )?;
-    }
-    Ok(())
+    obey(&rt, rt.alloc(), TWO_GATES)
 }
 
 #[test]
 fn pull_yields_to_drivers(rt: HostRuntime) -> Result<(), Fail> {
-    let alloc = rt.alloc();
-    let mut gate = circuit(alloc, &[(Kind::Not, &[0], &[1])], &[0], &[1], &[])?;
-    for net in 0..3 {
-        gate.pulls.push((net, ONE))?;
-    }
-    gate.pulls.push((2, UNKNOWN))?;
-    gate.pulls.push((3, ZERO))?;
-    gate.pulls.push((3, ONE))?;
-    let put = stimuli(alloc, &[(0, ONE)])?;
-    expect_net(&rt, alloc, &gate, put.as_slice(), 0, &[ONE, ONE])?;
-    expect_net(&rt, alloc, &gate, put.as_slice(), 1, &[ONE, ZERO])?;
-    expect_net(&rt, alloc, &gate, put.as_slice(), 2, &[ONE, ONE])?;
-    expect_net(&rt, alloc, &gate, put.as_slice(), 3, &[ERROR, ERROR])?;
-    expect_net(&rt, alloc, &gate, put.as_slice(), 4, &[UNKNOWN, UNKNOWN])?;
-    let floating = stimuli(alloc, &[(0, UNKNOWN)])?;
-    expect_net(&rt, alloc, &gate, floating.as_slice(), 0, &[ONE, ONE])
+    obey(&rt, rt.alloc(), PULLED_NETS)
 }
 
 #[test]
 fn constant_is_busy_at_instant_one(rt: HostRuntime) -> Result<(), Fail> {
-    let alloc = rt.alloc();
-    let constant = circuit(alloc, &[(Kind::Constant, &[], &[0])], &[], &[0], &[])?;
-    let mut rows = Vec::new(alloc);
-    rows.push(words(alloc, &[])?)?;
-    rows.push(words(alloc, &[])?)?;
-    expect_net(&rt, alloc, &constant, &[], 0, &[UNKNOWN, ONE, ONE])?;
-    let lines = [(ONE, 1, None), (ONE, 0, None)];
-    expect_table(&rt, alloc, &constant, rows.as_slice(), 1, &lines, None)?;
-    let stop = Some((1, Phase::Settle));
-    expect_table(&rt, alloc, &constant, rows.as_slice(), 0, &[], stop)
+    obey(&rt, rt.alloc(), CONSTANT)
 }
 
 #[test]
 fn flip_flop_toggles_at_each_rise(rt: HostRuntime) -> Result<(), Fail> {
-    let alloc = rt.alloc();
-    let parts: [(Kind, &[u32], &[u32]); 1] = [(Kind::FlipFlop, &[1, 2], &[0, 1])];
-    let toggle = circuit(alloc, &parts, &[], &[0], &[2])?;
-    let mut rows = Vec::new(alloc);
-    for _ in 0..4 {
-        rows.push(words(alloc, &[])?)?;
-    }
-    let lines = [
-        (ZERO, 5, Some((5, 0))),
-        (ONE, 0, Some((5, 0))),
-        (ZERO, 0, Some((5, 0))),
-        (ONE, 0, Some((5, 0))),
-    ];
-    expect_table(&rt, alloc, &toggle, rows.as_slice(), 1, &lines, None)
+    obey(&rt, rt.alloc(), TOGGLE)
 }
 
 #[test]
 fn flip_flop_takes_the_data_of_its_trigger(rt: HostRuntime) -> Result<(), Fail> {
-    let alloc = rt.alloc();
-    let parts: [(Kind, &[u32], &[u32]); 1] = [(Kind::FlipFlop, &[0, 1], &[2, 3])];
-    let flip = circuit(alloc, &parts, &[0, 1], &[2], &[])?;
-    let mut put = Vec::new(alloc);
-    for (from, data, clock) in [
-        (0, ZERO, ZERO),
-        (1, ONE, ONE),
-        (2, ONE, ZERO),
-        (3, ZERO, ONE),
-    ] {
-        put.push(Stimulus::new(from, words(alloc, &[data, clock])?, ZERO))?;
-    }
-    let want = [
-        UNKNOWN, UNKNOWN, UNKNOWN, UNKNOWN, UNKNOWN, ZERO, ONE, ONE, ZERO,
-    ];
-    expect_net(&rt, alloc, &flip, put.as_slice(), 2, &want)
+    obey(&rt, rt.alloc(), FLIP_FLOP)
 }
 
 #[test]
 fn clock_that_enables_a_loop_stops_at_the_rise(rt: HostRuntime) -> Result<(), Fail> {
-    let alloc = rt.alloc();
-    let parts: [(Kind, &[u32], &[u32]); 2] = [(Kind::And, &[0, 2], &[1]), (Kind::Not, &[1], &[2])];
-    let ring = circuit(alloc, &parts, &[], &[1], &[0])?;
-    let mut rows = Vec::new(alloc);
-    rows.push(words(alloc, &[])?)?;
-    let stop = Some((1, Phase::Rise));
-    expect_table(&rt, alloc, &ring, rows.as_slice(), 9, &[], stop)
+    obey(&rt, rt.alloc(), CLOCKED_LOOP)
 }
 
 #[test]

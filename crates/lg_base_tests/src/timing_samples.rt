@@ -10,7 +10,7 @@ use lg_value::{Bit, Word};
 use std::alloc::{AllocError, Global};
 
 /// What a part does.
-#[derive(Clone, Copy, Debug, PartialEq, Eq)]
+#[derive(Clone, Copy)]
 pub(crate) enum Kind {
     Not,
     And,
@@ -24,7 +24,7 @@ pub(crate) enum Kind {
 }
 
 /// A part.
-#[derive(Debug, Drop)]
+#[derive(Drop)]
 pub(crate) struct Sample {
     pub kind: Kind,
     pub inputs: Vec<Port>,

@@ -1,10 +1,6 @@
-//! Tests of gates, arithmetic, state kinds and vectors, on values that a person worked out.
+//! Tests of state kinds and vectors that are more than a row of values, on values that a person worked out.
 #![tactic(auto)]
 
-#[cfg(test)]
-mod arith;
-#[cfg(test)]
-mod gates;
 #[cfg(test)]
 mod memory;
 #[cfg(test)]

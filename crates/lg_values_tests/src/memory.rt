@@ -4,9 +4,8 @@ ghost use Rattle.std.specs.Prelude.{◌≡◌, [], ◌∷◌};
 
 use lg_value::{Bit, Word};
 
-mod flip_flops;
+mod counters;
 mod images;
-mod numbers;
 mod stores;
 
 // A word of one bit.

@@ -3,7 +3,7 @@ use Rattle.std.proofs.Common.{◌≡◌, ℕ, List, [], ◌∷◌, refl}
 use Rattle.std.specs.Prelude.{codes}
 use Rattle.std.specs.List.{IsDistinct}
 use Rattle.std.specs.Str.{bytes_eq}
-use Rattle.lg_values_tests.proofs.vectors.bound.Goals as goal
+use Rattle.lg_value_cases.proofs.vectors.bound.Goals as goal
 
 two_distinct : (a b : List ℕ) → a ≡ codes "A" → b ≡ codes "B" → IsDistinct bytes_eq (a ∷ b ∷ [])
 unfolding IsDistinct
