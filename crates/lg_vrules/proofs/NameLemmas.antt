@@ -114,7 +114,7 @@ KnowsNames-more some name old new knows fresh grows = record {
     turned false true = refl
     turned false false = refl
 
--- indexes
+-- indexes of names
 
 abbrev Named : Type 0
 Named = List ℕ × Thing

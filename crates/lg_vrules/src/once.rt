@@ -104,7 +104,7 @@ impl NameIndex {
     fn is_whole(&self, fill: &Fill) -> bool
         ensures { result ≡ fill_is_whole (sort_under self.now) fill.now }
     {
-        fill.count.checked_sub(1) == Some(self.last_place(&fill.name))
+        fill.count.checked_sub(1) == Some(self.last_address(&fill.name))
     }
 
     /// Whether wires and outputs, and they alone, have one assign each.

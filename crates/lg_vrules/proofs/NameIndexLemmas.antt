@@ -14,7 +14,7 @@ use Rattle.lg_vrules.specs.declared.names.Thing.{Thing}
 use Rattle.lg_vrules.specs.declared.names.NameIndex.{NameIndex}
 use Rattle.lg_vrules.specs.Things.{range_width}
 use Rattle.lg_vrules.specs.Things.{is_assignable, things, port_thing, decl_thing, sort_of, width_of}
-use Rattle.lg_vrules.specs.Rules.{most_bits, is_narrow, are_narrow, first_false, are_fitting, are_used, are_assigned_once, are_kept_once, are_indexed, are_named, are_divided_safely, first_broken, all_differ, assigned, is_of, has_each, is_among}
+use Rattle.lg_vrules.specs.Rules.{most_bits, is_narrow, are_narrow, first_false, are_fitting, are_used, are_assigned_once, are_kept_once, are_addressed, are_named, are_divided_safely, first_broken, all_differ, assigned, is_of, has_each, is_among}
 use Rattle.lg_vrules.specs.Known.{sort_under, width_under, KnowsThings, AreNarrow}
 
 pub sort_is : (m : Module) (index : NameIndex) → KnowsThings (things m) index → sort_under index ≡ sort_of m
@@ -26,8 +26,8 @@ width_is m index knows = λ i name. unwrap_or (option_map (λ (t : Thing). range
 pub fits_is : (m : Module) (index : NameIndex) → KnowsThings (things m) index → are_fitting (sort_of m) (width_of m) m ≡ are_fitting (sort_under index) (width_under index) m
 fits_is m index knows = sym (λ i. are_fitting (sort_is m index knows i) (width_is m index knows i) m)
 
-pub indexed_is : (m : Module) (index : NameIndex) → KnowsThings (things m) index → are_indexed (sort_of m) (width_of m) m ≡ are_indexed (sort_under index) (width_under index) m
-indexed_is m index knows = sym (λ i. are_indexed (sort_is m index knows i) (width_is m index knows i) m)
+pub addressed_is : (m : Module) (index : NameIndex) → KnowsThings (things m) index → are_addressed (sort_of m) (width_of m) m ≡ are_addressed (sort_under index) (width_under index) m
+addressed_is m index knows = sym (λ i. are_addressed (sort_is m index knows i) (width_is m index knows i) m)
 
 pub used_is : (m : Module) (index : NameIndex) → KnowsThings (things m) index → are_used (sort_of m) m ≡ are_used (sort_under index) m
 used_is m index knows = sym (λ i. are_used (sort_is m index knows i) m)

@@ -1,7 +1,7 @@
 use Rattle.std.proofs.Common.{◌≡◌, ℕ, ◌+◌, ◌-◌, ◌*◌, ◌%◌, ◌^◌, ◌≤◌, pow_mono, sym, ap, ◌∙◌, arith}
 use Rattle.lg_vrules.specs.Rules.{width_from}
-use Rattle.lg_vrules.proofs.IndexWidthLemmas.{not_this}
-use Rattle.lg_vrules.proofs.indexing.index_width.Goals as goal
+use Rattle.lg_vrules.proofs.AddressWidthLemmas.{not_this}
+use Rattle.lg_vrules.proofs.addressing.address_width.Goals as goal
 
 pub loop-width-preserved : goal.loop-width-preserved
 loop-width-preserved c =

@@ -1,4 +1,4 @@
--- Widths of indices, and indices inside expressions.
+-- Widths of addresses, and addresses inside expressions.
 use Rattle.std.proofs.Common.{◌≡◌, ℕ, zero, suc, ◌+◌, ◌-◌, ◌^◌, ◌≤◌, Bool, true, false, eqb, ◌&&◌, List, map, Option, refl, sym, ap, ◌∙◌, arith, rules, pow_pos}
 use Rattle.std.specs.List.{list_all}
 use Rattle.lg_vtree.specs.declared.expr.Expr.{Expr}
@@ -6,7 +6,7 @@ use Rattle.lg_vtree.specs.declared.expr.Expr.TheOpen.{Expr-F}
 use Rattle.lg_vtree.specs.declared.expr.Expr.TheVariants.{rolls-Item, rolls-Join}
 use Rattle.lg_vtree.specs.declared.expr.Expr.TheVariants as expr
 use Rattle.lg_vrules.specs.declared.names.Sort.{Sort}
-use Rattle.lg_vrules.specs.Rules.{width_from, index_fits, indexes, all_index}
+use Rattle.lg_vrules.specs.Rules.{width_from, address_fits, addresses, all_address}
 use Rattle.lg_vrules.proofs.InsideLemmas.{inside-roll}
 
 -- one width that it is not
@@ -23,10 +23,10 @@ not_this (suc n) width last some differs =
 
 module _ (sort : List ℕ → Option Sort) (width : List ℕ → ℕ) where
   abbrev fits : Expr → Bool
-  fits e = all_index sort width e
+  fits e = all_address sort width e
 
-  pub index-Item : (name : List ℕ) (e : Expr) → fits (expr.Item name e) ≡ (indexes sort width name e && fits e)
-  index-Item name e = ap fits (sym (rolls-Item name e)) ∙ inside-roll (index_fits sort width) (Expr-F.Item name e)
+  pub address-Item : (name : List ℕ) (e : Expr) → fits (expr.Item name e) ≡ (addresses sort width name e && fits e)
+  address-Item name e = ap fits (sym (rolls-Item name e)) ∙ inside-roll (address_fits sort width) (Expr-F.Item name e)
 
-  pub index-Join : (a b : Expr) (more : List Expr) → fits (expr.Join a b more) ≡ (list_all (λ fit. fit) (map fits more) && (fits a && fits b))
-  index-Join a b more = ap fits (sym (rolls-Join a b more)) ∙ inside-roll (index_fits sort width) (Expr-F.Join a b more)
+  pub address-Join : (a b : Expr) (more : List Expr) → fits (expr.Join a b more) ≡ (list_all (λ fit. fit) (map fits more) && (fits a && fits b))
+  address-Join a b more = ap fits (sym (rolls-Join a b more)) ∙ inside-roll (address_fits sort width) (Expr-F.Join a b more)

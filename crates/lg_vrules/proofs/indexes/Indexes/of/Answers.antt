@@ -4,9 +4,9 @@ use Rattle.std.specs.Map.{update}
 use Rattle.std.specs.Prelude.{string_bytes}
 use Rattle.std.specs.Str.{bytes_eq}
 use Rattle.std.proofs.lemmas.Map.Text.{btree_map_updates_text}
-use Rattle.lg_vrules.specs.Places.{KnowsPlaces}
-use Rattle.lg_vrules.proofs.PlaceLemmas.{texts, texts_more, fresh_at, count_at, KnowsPlaces-more}
-use Rattle.lg_vrules.proofs.places.Places.of.Goals as goal
+use Rattle.lg_vrules.specs.Indexes.{KnowsIndexes}
+use Rattle.lg_vrules.proofs.IndexesLemmas.{texts, texts_more, fresh_at, count_at, KnowsIndexes-more}
+use Rattle.lg_vrules.proofs.indexes.Indexes.of.Goals as goal
 
 pub loop-at-preserved : goal.loop-at-preserved
 loop-at-preserved c =
@@ -15,7 +15,7 @@ loop-at-preserved c =
     let none : Bor (List ℕ) = record { ref_ptr = (0, 0); now = [] } in
     let name = get_or names i none in
     let key = c.in_ok-from_str.field-0 in
-    let old = c.loop-at.places in
+    let old = c.loop-at.indexes in
     let new = c.insert.new.self in
     let spelled : string_bytes key ≡ name.now = c.in_ok-from_str.ensures.ok in
     let updated : (q : List ℕ) → get_by_text new q ≡ update bytes_eq (λ (q : List ℕ). get_by_text old q) name.now (Some i) q = λ q.
@@ -23,5 +23,5 @@ loop-at-preserved c =
     let more = texts_more names i none c.loop-at-test.true in
     let fresh = fresh_at names i none c.requires c.loop-at-test.true in
     let count = count_at names i c.loop-at-test.true in
-    subst (λ (some : List (List ℕ)). KnowsPlaces some (record { places = new })) (sym more)
-    (KnowsPlaces-more (texts (take i names)) name.now i (record { places = old }) (record { places = new }) c.loop-at.invariant fresh count updated)
+    subst (λ (some : List (List ℕ)). KnowsIndexes some (record { indexes = new })) (sym more)
+    (KnowsIndexes-more (texts (take i names)) name.now i (record { indexes = old }) (record { indexes = new }) c.loop-at.invariant fresh count updated)
