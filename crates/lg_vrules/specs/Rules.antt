@@ -1,8 +1,9 @@
 -- Which modules are valid: seven rules, of which each later one is asked only where the earlier ones hold.
 -- Source: IEEE 1364-2005, 12.3 (ports), 4.2 and 4.9 (declarations), 5.4 (widths of expressions), 6.1 and 9.2 (assignments), in a narrower form.
 use Rattle.std.specs.Prelude.{ℕ, zero, suc, sum_by, ◌+◌, ◌-◌, ◌^◌, ◌==◌, nat_le, nat_lt, Bool, true, false, not, ◌&&◌, ◌||◌, List, [], ◌∷◌, map, length, take, Option, Some, None, option_map, option_and_then, unwrap_or, is_some, codes, if◌then◌else◌}
-use Rattle.std.specs.List.{list_all, list_any}
+use Rattle.std.specs.List.{list_all}
 use Rattle.std.specs.Str.{bytes_eq}
+pub use Rattle.lg_vnames.specs.Names.{is_among, all_differ}
 use Rattle.lg_vtree.specs.declared.module.Port.{Port}
 use Rattle.lg_vtree.specs.declared.module.Fill.{Fill}
 use Rattle.lg_vtree.specs.declared.module.Word.{Word}
@@ -25,15 +26,6 @@ use Rattle.lg_vrules.specs.declared.names.Sort.TheVariants as sort
 use Rattle.lg_vrules.specs.declared.names.Thing.{Thing}
 use Rattle.lg_vrules.specs.Inside.{holds_inside}
 use Rattle.lg_vrules.specs.Things.{range_width, things, port_thing, decl_thing, names, sort_of, width_of, is_reg, is_memory, is_assignable, is_readable}
-
--- the name is one of these
-abbrev pub is_among : List ℕ → List (List ℕ) → Bool
-is_among name names = list_any (λ other. bytes_eq other name) names
-
--- no name stands twice
-abbrev pub all_differ : List (List ℕ) → Bool
-all_differ [] = true
-all_differ (name ∷ more) = not (is_among name more) && all_differ more
 
 -- 1: declared names differ; an input is `clk`, of one bit, or begins with `i_`, and an output with `o_`
 

@@ -8,7 +8,6 @@ mod divisors;
 mod fault;
 mod fitting;
 mod indexes;
-mod name_set;
 mod names;
 mod once;
 mod rules;

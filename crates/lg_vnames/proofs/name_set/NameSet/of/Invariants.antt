@@ -1,6 +1,6 @@
 use Rattle.std.proofs.Common.{map, take}
-use Rattle.lg_vrules.specs.Known.{KnowsNames}
-use Rattle.lg_vrules.proofs.name_set.NameSet.of.Given as goal
+use Rattle.lg_vnames.specs.Sets.{KnowsNames}
+use Rattle.lg_vnames.proofs.name_set.NameSet.of.Given as goal
 
 -- the names so far are known
 abbrev pub invariant-loop-name : goal.invariant-loop-name

@@ -5,10 +5,10 @@ use Rattle.std.specs.Str.{bytes_eq}
 use Rattle.std.proofs.SliceLists.{take_long}
 use Rattle.std.proofs.lemmas.List.{map_more, map-append}
 use Rattle.std.proofs.lemmas.Map.Text.{btree_set_updates_text}
-use Rattle.lg_vrules.specs.Rules.{all_differ}
-use Rattle.lg_vrules.specs.Known.{KnowsNames}
-use Rattle.lg_vrules.proofs.NameLemmas.{KnowsNames-more, clash, differ_front}
-use Rattle.lg_vrules.proofs.name_set.NameSet.of.Goals as goal
+use Rattle.lg_vnames.specs.Names.{all_differ}
+use Rattle.lg_vnames.specs.Sets.{KnowsNames}
+use Rattle.lg_vnames.proofs.NameLemmas.{KnowsNames-more, clash, differ_front}
+use Rattle.lg_vnames.proofs.name_set.NameSet.of.Goals as goal
 
 abbrev texts : List (Bor (List ℕ)) → List (List ℕ)
 texts names = map (λ name. name.now) names

@@ -1,8 +1,7 @@
 //! Names that stand once.
 
 ghost use Rattle.std.specs.Prelude.{◌≡◌, IfOk, map};
-ghost use Rattle.lg_vrules.specs.Rules.{is_among};
-ghost use Rattle.lg_vrules.specs.Known.{IsSet, KnowsNames, holds};
+ghost use Rattle.lg_vnames.specs.Sets.{IsSet, holds};
 
 use lg_vtree::Memory;
 use std::alloc::Global;
