@@ -41,20 +41,20 @@ cell_reads Or output input = refl
 pub record IsX (n : Netlist) (r : HasRanks n) (name : List ℕ) (rank : ℕ) : Type 0 where
   pub part : ℕ
   pub input : ℕ
-  pub place : ℕ
+  pub index : ℕ
   pub few : part < 2 ^ 32
   pub small : input < 64
-  pub stands : slice_get (all_outputs n) place ≡ Some (part, 0)
+  pub stands : slice_get (all_outputs n) index ≡ Some (part, 0)
   pub is : name ≡ input_wire part input
-  pub ranks : rank ≡ 2 * r.rank place + 1
+  pub ranks : rank ≡ 2 * r.rank index + 1
 
 pub record IsW (n : Netlist) (r : HasRanks n) (name : List ℕ) (rank : ℕ) : Type 0 where
   pub part : ℕ
-  pub place : ℕ
+  pub index : ℕ
   pub few : part < 2 ^ 32
-  pub stands : slice_get (all_outputs n) place ≡ Some (part, 0)
+  pub stands : slice_get (all_outputs n) index ≡ Some (part, 0)
   pub is : name ≡ output_wire part 0
-  pub ranks : rank ≡ 2 * r.rank place + 2
+  pub ranks : rank ≡ 2 * r.rank index + 2
 
 pub record IsO (n : Netlist) (r : HasRanks n) (name : List ℕ) (rank : ℕ) : Type 0 where
   pub pin : PinUse
@@ -105,10 +105,10 @@ module _ (n : Netlist) (clockless : has_no_clock n ≡ true) (accepted : IsAccep
   from_input p other rank here e = inl (subst (IsIn (map input_name (input_pins n))) (sym e) (item_in (map input_name (input_pins n)) (input_name p) (map_item input_name (input_pins n) p here)))
 
   -- what an input's equation reads is an input of the module, or an output that its part follows
-  below_input : (k : ℕ) (p : PartUse) (i : ℕ × List ℕ) → slice_get n.parts k ≡ Some p → IsItem (attached p) i → (place : ℕ) → slice_get (all_outputs n) place ≡ Some (k, 0)
-      → (net : ℕ) → Contains i.1 net → (other : List ℕ) → other ≡ (bit_on n net).name → Source n net → Earlier (2 * r.rank place + 1) other
-  below_input k p i at here place stands net on other e (FromPin q bit listed pin_at is) = from_input q other (2 * r.rank place + 1) listed (e ∙ ap (λ b. b.name) is)
-  below_input k p i at here place stands net on other e (FromPart q source bits bit part output bit_at is) =
+  below_input : (k : ℕ) (p : PartUse) (i : ℕ × List ℕ) → slice_get n.parts k ≡ Some p → IsItem (attached p) i → (index : ℕ) → slice_get (all_outputs n) index ≡ Some (k, 0)
+      → (net : ℕ) → Contains i.1 net → (other : List ℕ) → other ≡ (bit_on n net).name → Source n net → Earlier (2 * r.rank index + 1) other
+  below_input k p i at here index stands net on other e (FromPin q bit listed pin_at is) = from_input q other (2 * r.rank index + 1) listed (e ∙ ap (λ b. b.name) is)
+  below_input k p i at here index stands net on other e (FromPart q source bits bit part output bit_at is) =
       let attached = attached_is p i here in
       let follows : Follows n (q, 0) (k, 0) = record {
         is_earlier = output_of q source part;
@@ -118,14 +118,14 @@ module _ (n : Netlist) (clockless : has_no_clock n ≡ true) (accepted : IsAccep
         read = record { part = p; input = i.0; bits = i.1; is_part = at; is_input = attached.0; reads = cell_reads p.cell 0 i.0; on = on };
       } in
       let there = output_listed n (q, 0) (output_of q source part) in
-      let lower = r.rises place there.0 (k, 0) (q, 0) stands there.1 follows in
-      inr (2 * r.rank there.0 + 2, omega (arith, lower), inr (inl (record { part = q; place = there.0; few = few_part q source part; stands = there.1; is = e ∙ ap (λ b. b.name) is; ranks = refl })), (w_assign q source, w_made q source part, sym (e ∙ ap (λ b. b.name) is)))
+      let lower = r.rises index there.0 (k, 0) (q, 0) stands there.1 follows in
+      inr (2 * r.rank there.0 + 2, omega (arith, lower), inr (inl (record { part = q; index = there.0; few = few_part q source part; stands = there.1; is = e ∙ ap (λ b. b.name) is; ranks = refl })), (w_assign q source, w_made q source part, sym (e ∙ ap (λ b. b.name) is)))
 
   below_pin : (net : ℕ) (other : List ℕ) → other ≡ (bit_on n net).name → Source n net → Earlier (2 * r.most + 3) other
   below_pin net other e (FromPin q bit listed pin_at is) = from_input q other (2 * r.most + 3) listed (e ∙ ap (λ b. b.name) is)
   below_pin net other e (FromPart q source bits bit part output bit_at is) =
       let there = output_listed n (q, 0) (output_of q source part) in
-      inr (2 * r.rank there.0 + 2, omega (arith, r.below there.0), inr (inl (record { part = q; place = there.0; few = few_part q source part; stands = there.1; is = e ∙ ap (λ b. b.name) is; ranks = refl })), (w_assign q source, w_made q source part, sym (e ∙ ap (λ b. b.name) is)))
+      inr (2 * r.rank there.0 + 2, omega (arith, r.below there.0), inr (inl (record { part = q; index = there.0; few = few_part q source part; stands = there.1; is = e ∙ ap (λ b. b.name) is; ranks = refl })), (w_assign q source, w_made q source part, sym (e ∙ ap (λ b. b.name) is)))
 
   -- what an equation reads stands earlier than what it gives
   pub earlier : (a : Assign) → Given n a → (rank : ℕ) → Rank n r a.name rank → (other : List ℕ) → Contains (names_read a.value) other → Earlier rank other
@@ -133,21 +133,21 @@ module _ (n : Netlist) (clockless : has_no_clock n ≡ true) (accepted : IsAccep
       let is = attached_is p i here in
       let few = few_part k p at in
       let same : k ≡ x.part = (input_wire_same k i.0 x.part x.input (omega (arith, few)) (omega (arith, small_input k p i at here)) (omega (arith, x.few)) (omega (arith, x.small)) x.is).0 in
-      let stands : slice_get (all_outputs n) x.place ≡ Some (k, 0) = subst (λ (q : ℕ). slice_get (all_outputs n) x.place ≡ Some (q, 0)) (sym same) x.stands in
+      let stands : slice_get (all_outputs n) x.index ≡ Some (k, 0) = subst (λ (q : ℕ). slice_get (all_outputs n) x.index ≡ Some (q, 0)) (sym same) x.stands in
       let b = bits_read n i.1 is.1 other read in
-      subst (λ (rank : ℕ). Earlier rank other) (sym x.ranks) (below_input k p i at here x.place stands b.0 b.1 other b.2 (input_source n clockless accepted k p i.0 i.1 at is.0 b.0 b.1))
+      subst (λ (rank : ℕ). Earlier rank other) (sym x.ranks) (below_input k p i at here x.index stands b.0 b.1 other b.2 (input_source n clockless accepted k p i.0 i.1 at is.0 b.0 b.1))
   earlier a (OfInput k p i at here) rank (inr (inl w)) other read = absurd (apart (input_wire k i.0) (output_wire w.part 0) 120 119 (initial-input_wire k i.0) (initial-output_wire w.part 0) refl w.is)
   earlier a (OfInput k p i at here) rank (inr (inr o)) other read = absurd (apart (input_wire k i.0) (output_name o.pin) 120 111 (initial-input_wire k i.0) (initial-output_name o.pin) refl o.is)
   earlier a (OfPart k p at) rank (inl x) other read = absurd (apart (output_wire k 0) (input_wire x.part x.input) 119 120 (initial-output_wire k 0) (initial-input_wire x.part x.input) refl x.is)
   earlier a (OfPart k p at) rank (inr (inl w)) other read =
       let few = few_part k p at in
       let same : k ≡ w.part = output_wire_same k w.part (omega (arith, few)) (omega (arith, w.few)) w.is in
-      let stands : slice_get (all_outputs n) w.place ≡ Some (k, 0) = subst (λ (q : ℕ). slice_get (all_outputs n) w.place ≡ Some (q, 0)) (sym same) w.stands in
+      let stands : slice_get (all_outputs n) w.index ≡ Some (k, 0) = subst (λ (q : ℕ). slice_get (all_outputs n) w.index ≡ Some (q, 0)) (sym same) w.stands in
       let first = first_of_part n clockless accepted k p at in
       let written : map (λ (i : ℕ × List ℕ). expr.Whole (input_wire k i.0)) (attached p) ≡ wholes (first.0 ∷ first.1) = wholes-are n clockless accepted k (attached p) ∙ ap wholes first.2 in
       let among = equation_reads p.cell first.0 first.1 other (subst (λ (es : List Expr). Contains (names_read (equation p.cell es)) other) written read) in
       let b = item_of_map (λ (i : ℕ × List ℕ). input_wire k i.0) (attached p) other (in_item (x_names k (attached p)) other (subst (λ (names : List (List ℕ)). IsIn names other) (sym first.2) among)) in
-      inr (2 * r.rank w.place + 1, omega (arith, w.ranks), inl (record { part = k; input = b.0.0; place = w.place; few = few; small = small_input k p b.0 at b.1; stands = stands; is = b.2; ranks = refl }), (x_assign n k b.0, x_made k p b.0 at b.1, sym b.2))
+      inr (2 * r.rank w.index + 1, omega (arith, w.ranks), inl (record { part = k; input = b.0.0; index = w.index; few = few; small = small_input k p b.0 at b.1; stands = stands; is = b.2; ranks = refl }), (x_assign n k b.0, x_made k p b.0 at b.1, sym b.2))
   earlier a (OfPart k p at) rank (inr (inr o)) other read = absurd (apart (output_wire k 0) (output_name o.pin) 119 111 (initial-output_wire k 0) (initial-output_name o.pin) refl o.is)
   earlier a (OfPin p here) rank (inl x) other read = absurd (apart (output_name p) (input_wire x.part x.input) 111 120 (initial-output_name p) (initial-input_wire x.part x.input) refl x.is)
   earlier a (OfPin p here) rank (inr (inl w)) other read = absurd (apart (output_name p) (output_wire w.part 0) 111 119 (initial-output_name p) (initial-output_wire w.part 0) refl w.is)
@@ -198,10 +198,10 @@ module _ (n : Netlist) (clockless : has_no_clock n ≡ true) (accepted : IsAccep
   pub ranked : (a : Assign) → Given n a → (rank : ℕ) × Rank n r a.name rank
   ranked a (OfInput k p i at here) =
       let there = output_listed n (k, 0) (output_of k p at) in
-      (2 * r.rank there.0 + 1, inl (record { part = k; input = i.0; place = there.0; few = few_part k p at; small = small_input k p i at here; stands = there.1; is = refl; ranks = refl }))
+      (2 * r.rank there.0 + 1, inl (record { part = k; input = i.0; index = there.0; few = few_part k p at; small = small_input k p i at here; stands = there.1; is = refl; ranks = refl }))
   ranked a (OfPart k p at) =
       let there = output_listed n (k, 0) (output_of k p at) in
-      (2 * r.rank there.0 + 2, inr (inl (record { part = k; place = there.0; few = few_part k p at; stands = there.1; is = refl; ranks = refl })))
+      (2 * r.rank there.0 + 2, inr (inl (record { part = k; index = there.0; few = few_part k p at; stands = there.1; is = refl; ranks = refl })))
   ranked a (OfPin p here) = (2 * r.most + 3, inr (inr (record { pin = p; is = refl; ranks = refl })))
 
   pub acyclic : IsAcyclic (module_of n)

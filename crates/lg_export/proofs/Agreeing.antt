@@ -32,7 +32,7 @@ use Rattle.lg_export.proofs.Declared.{pin_thing, x_thing, w_thing, all_things, l
 use Rattle.lg_export.proofs.Gates.{IsDefinedBit}
 use Rattle.lg_export.proofs.Given.{x_assign, w_assign, o_assign, given}
 use Rattle.lg_export.proofs.Items.{IsItem, item_of_map, map_item, each_item, at_each}
-use Rattle.lg_export.proofs.Named.{item_in, FromInput, FromOutput, FromX, FromW, Origin, origin, only_place}
+use Rattle.lg_export.proofs.Named.{item_in, FromInput, FromOutput, FromX, FromW, Origin, origin, only_index}
 use Rattle.lg_export.proofs.Pins.{part_fits}
 use Rattle.lg_export.proofs.Solves.{valuation, defined_word, solves, gives}
 use Rattle.lg_export.proofs.Sources.{pin_driven}
@@ -93,7 +93,7 @@ module _ (n : Netlist) (clockless : has_no_clock n ≡ true) (accepted : IsAccep
     same_thing t (FromOutput p here) = same_assign (o_assign n p) (o_made n clockless accepted order p here)
     same_thing t (FromX k p i at here) = same_assign (x_assign n k i) (x_made n clockless accepted order k p i at here)
     same_thing t (FromW k p o at here) =
-        subst (λ (output : ℕ). v (output_wire k output) ≡ w (output_wire k output)) (sym (only_place p.outputs o (part_fits n k p at).gives here)) (same_assign (w_assign k p) (w_made n clockless accepted order k p at))
+        subst (λ (output : ℕ). v (output_wire k output) ≡ w (output_wire k output)) (sym (only_index p.outputs o (part_fits n k p at).gives here)) (same_assign (w_assign k p) (w_made n clockless accepted order k p at))
 
     pub agree_on : AgreeOn m v w
     agree_on =

@@ -16,7 +16,7 @@ use Rattle.lg_vtree.specs.Depth.{form_depth, depth}
 use Rattle.lg_vrules.specs.declared.names.Sort.{Sort}
 use Rattle.lg_vrules.specs.Depends.{form_names, names_read}
 use Rattle.lg_vrules.specs.Inside.{form_inside, holds_inside}
-use Rattle.lg_vrules.specs.Rules.{is_of, form_reads, reads_declared, form_width, expr_width, divides_safely, index_fits, all_index}
+use Rattle.lg_vrules.specs.Rules.{is_of, form_reads, reads_declared, form_width, expr_width, divides_safely, address_fits, all_address}
 use Rattle.lg_vrules.specs.Things.{width_of, is_readable}
 use Rattle.lg_vmachine.specs.Kept.{Kept}
 use Rattle.lg_vresolve.specs.Meaning.{Valuation, number_of, form_number, memory_words, operator_value}
@@ -112,11 +112,11 @@ equation_divides c name names =
       or = λ a b ha hb. ap (λ (r : Expr × Bool). r.1) (fold-Binary step a operator.Or b) ∙ and_from (holds_inside divides_safely a) (holds_inside divides_safely b) ha hb;
     }) c name names (λ other here. ap (λ (r : Expr × Bool). r.1) (fold-Whole step other))
 
-pub equation_index : (sort : List ℕ → Option Sort) (width : List ℕ → ℕ) (c : Cell) (name : List ℕ) (names : List (List ℕ)) → all_index sort width (equation c (wholes (name ∷ names))) ≡ true
-equation_index sort width c name names =
-    let here = index_fits sort width in
+pub equation_address : (sort : List ℕ → Option Sort) (width : List ℕ → ℕ) (c : Cell) (name : List ℕ) (names : List (List ℕ)) → all_address sort width (equation c (wholes (name ∷ names))) ≡ true
+equation_address sort width c name names =
+    let here = address_fits sort width in
     let step = form_inside here in
-    equation_holds (λ e. all_index sort width e ≡ true)
+    equation_holds (λ e. all_address sort width e ≡ true)
     (record {
       not = λ e h. ap (λ (r : Expr × Bool). r.1) (fold-Not step e) ∙ h;
       and = λ a b ha hb. ap (λ (r : Expr × Bool). r.1) (fold-Binary step a operator.And b) ∙ and_from (holds_inside here a) (holds_inside here b) ha hb;

@@ -34,4 +34,4 @@ pub first_is_driver : (n : Netlist) (net : ℕ) (d : Driver) → first_driver n 
 first_is_driver n net d first = All-at (IsDriver n) (drivers n net) 0 d (drivers_are n net) first
 
 pub bit_on-first : (n : Netlist) (net : ℕ) (d : Driver) → first_driver n net ≡ Some d → bit_of n d ≡ bit_on n net
-bit_on-first n net d first = ap (λ (o : Option Driver). unwrap_or (option_map (bit_of n) o) (record { name = []; width = 0; place = 0 })) (sym first)
+bit_on-first n net d first = ap (λ (o : Option Driver). unwrap_or (option_map (bit_of n) o) (record { name = []; width = 0; index = 0 })) (sym first)

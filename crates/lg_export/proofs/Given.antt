@@ -44,8 +44,8 @@ given n a here = elim (item_either parts outs a here) [
 
     of_part : (e : ℕ × PartUse) × IsItem (numbered n.parts) e × IsItem (part_assigns n e) a → Given n a
     of_part (e, listed, here) =
-        let place = item_of_numbered 0 n.parts e listed in
-        let at : slice_get n.parts e.0 ≡ Some e.1 = ap (slice_get n.parts) (omega (arith, place.1)) ∙ place.2 in
+        let index = item_of_numbered 0 n.parts e listed in
+        let at : slice_get n.parts e.0 ≡ Some e.1 = ap (slice_get n.parts) (omega (arith, index.1)) ∙ index.2 in
         elim (item_either (map (x_assign n e.0) (attached e.1)) (w_assign e.0 e.1 ∷ []) a here) [
           | inl x ↦ let r = item_of_map (x_assign n e.0) (attached e.1) a x in subst (Given n) (sym r.2) (OfInput e.0 e.1 r.0 at r.1)
           | inr w ↦ last e at w

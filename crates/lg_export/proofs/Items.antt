@@ -69,11 +69,11 @@ item_of_numbered k (x ∷ xs) e (inr h) = let r = item_of_numbered (k + 1) xs e 
 
 numbered_item : {A : Type 0} (k : ℕ) (xs : List A) (i : ℕ) (x : A) → slice_get xs i ≡ Some x → IsItem (enumerate_from k xs) (k + i, x)
 numbered_item k [] i x e = absurd (cc e)
-numbered_item k (y ∷ ys) zero x e = let place : k + 0 ≡ k = omega arith in let same = sym (same_Some y x e) in inl (λ i. (place i, same i))
+numbered_item k (y ∷ ys) zero x e = let index : k + 0 ≡ k = omega arith in let same = sym (same_Some y x e) in inl (λ i. (index i, same i))
 numbered_item {A = A} k (y ∷ ys) (suc i) x e = inr (subst (λ (j : ℕ). IsItem (enumerate_from (k + 1) ys) (j, x)) (omega arith) (numbered_item (k + 1) ys i x e))
 
 pub numbered_at : {A : Type 0} (xs : List A) (i : ℕ) (x : A) → slice_get xs i ≡ Some x → IsItem (enumerate_from 0 xs) (i, x)
-numbered_at {A = A} xs i x e = let place : 0 + i ≡ i = omega arith in subst (λ (j : ℕ). IsItem (enumerate_from 0 xs) (j, x)) place (numbered_item 0 xs i x e)
+numbered_at {A = A} xs i x e = let index : 0 + i ≡ i = omega arith in subst (λ (j : ℕ). IsItem (enumerate_from 0 xs) (j, x)) index (numbered_item 0 xs i x e)
 
 pub item_of_filter : {A : Type 0} (test : A → Bool) (xs : List A) (x : A) → IsItem (filter test xs) x → IsItem xs x × (test x ≡ true)
 item_of_filter test [] x h = absurd h

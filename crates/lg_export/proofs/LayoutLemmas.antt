@@ -25,20 +25,20 @@ output_port p = record { direction = Output; range = range_of (length p.bits); n
 abbrev pub output_assign : Netlist → PinUse → Assign
 output_assign n p = record { name = output_name p; value = bits_value n p.bits }
 
--- the attached ones among some inputs, numbered from a place
+-- the attached ones among some inputs, numbered from an index
 abbrev pub attached_from : ℕ → List (List ℕ) → List (ℕ × List ℕ)
-attached_from place inputs = filter (λ (i : ℕ × List ℕ). not (length i.1 == 0)) (enumerate_from place inputs)
+attached_from index inputs = filter (λ (i : ℕ × List ℕ). not (length i.1 == 0)) (enumerate_from index inputs)
 
 not_none : (n : ℕ) (t : Bool) → (suc n == 0) ≡ t → t ≡ false
 not_none n true e = let none : suc n ≡ 0 = eqb-true (suc n) 0 e in absurd (omega arith)
 not_none n false e = refl
 
 -- an input more, where it is attached and where it is not
-attached_one : (place : ℕ) (bits : List ℕ) (inputs : List (List ℕ)) (b : Bool) → IsTrue b ↔ (bits ≡ []) → attached_from place (bits ∷ inputs) ≡ cond b [] ((place, bits) ∷ []) ++ attached_from (place + 1) inputs
-attached_one place [] inputs true h = refl
-attached_one place [] inputs false h = absurd (false≢true (h.1 refl))
-attached_one place (net ∷ bits) inputs true h = absurd (cc (h.0 refl))
-attached_one place (net ∷ bits) inputs false h = let one : (length (net ∷ bits) == 0) ≡ false = not_none (length bits) (suc (length bits) == 0) refl in rw one refl
+attached_one : (index : ℕ) (bits : List ℕ) (inputs : List (List ℕ)) (b : Bool) → IsTrue b ↔ (bits ≡ []) → attached_from index (bits ∷ inputs) ≡ cond b [] ((index, bits) ∷ []) ++ attached_from (index + 1) inputs
+attached_one index [] inputs true h = refl
+attached_one index [] inputs false h = absurd (false≢true (h.1 refl))
+attached_one index (net ∷ bits) inputs true h = absurd (cc (h.0 refl))
+attached_one index (net ∷ bits) inputs false h = let one : (length (net ∷ bits) == 0) ≡ false = not_none (length bits) (suc (length bits) == 0) refl in rw one refl
 
 pub attached-more : (inputs : List (List ℕ)) (i : ℕ) (bits : List ℕ) (b : Bool) → i < length inputs → bits ≡ get_or inputs i bits → IsTrue b ↔ (bits ≡ [])
     → attached_from i (drop i inputs) ≡ cond b [] ((i, bits) ∷ []) ++ attached_from (i + 1) (drop (i + 1) inputs)

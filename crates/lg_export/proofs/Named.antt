@@ -320,8 +320,8 @@ module _ {B : Type 0} (fin fout : PinUse → B) (fx fw : ℕ → PartUse → ℕ
 
       of_wire : (e : ℕ × PartUse) × IsItem (numbered n.parts) e × IsItem (part_said fx fw e) t → Origin n t
       of_wire (e, listed, here) =
-          let place = item_of_numbered 0 n.parts e listed in
-          let at : slice_get n.parts e.0 ≡ Some e.1 = ap (slice_get n.parts) (omega (arith, place.1)) ∙ place.2 in
+          let index = item_of_numbered 0 n.parts e listed in
+          let at : slice_get n.parts e.0 ≡ Some e.1 = ap (slice_get n.parts) (omega (arith, index.1)) ∙ index.2 in
           elim (item_either (map (λ (i : ℕ × List ℕ). (input_wire e.0 i.0, fx e.0 e.1 i)) (attached e.1)) (map (λ (o : ℕ × List ℕ). (output_wire e.0 o.0, fw e.0 e.1 o)) (numbered e.1.outputs)) t here) [
             | inl x ↦ let r = item_of_map (λ (i : ℕ × List ℕ). (input_wire e.0 i.0, fx e.0 e.1 i)) (attached e.1) t x in subst (Origin n) (sym r.2) (FromX e.0 e.1 r.0 at r.1)
             | inr w ↦ let r = item_of_map (λ (o : ℕ × List ℕ). (output_wire e.0 o.0, fw e.0 e.1 o)) (numbered e.1.outputs) t w in subst (Origin n) (sym r.2) (FromW e.0 e.1 r.0 at r.1)
@@ -336,19 +336,19 @@ attached_item p i bits at some =
 pub attached_is : (p : PartUse) (i : ℕ × List ℕ) → IsItem (attached p) i → (slice_get p.inputs i.0 ≡ Some i.1) × (0 < length i.1)
 attached_is p i here =
     let r = item_of_filter (λ (i : ℕ × List ℕ). not (length i.1 == 0)) (numbered p.inputs) i here in
-    let place = item_of_numbered 0 p.inputs i r.0 in
-    (ap (slice_get p.inputs) (omega (arith, place.1)) ∙ place.2, some (length i.1) r.1)
+    let index = item_of_numbered 0 p.inputs i r.0 in
+    (ap (slice_get p.inputs) (omega (arith, index.1)) ∙ index.2, some (length i.1) r.1)
   where
     some : (count : ℕ) → not (count == 0) ≡ true → 0 < count
     some zero h = absurd (false≢true h)
     some (suc count) h = omega arith
 
 -- a part has one output
-pub only_place : (ports : List (List ℕ)) (o : ℕ × List ℕ) → length ports ≡ 1 → IsItem (numbered ports) o → o.0 ≡ 0
-only_place [] o e here = absurd here
-only_place (bits ∷ []) o e (inl f) = ap (λ (o : ℕ × List ℕ). o.0) f
-only_place (bits ∷ []) o e (inr h) = absurd h
-only_place (a ∷ b ∷ more) o e here = absurd (omega (arith, e))
+pub only_index : (ports : List (List ℕ)) (o : ℕ × List ℕ) → length ports ≡ 1 → IsItem (numbered ports) o → o.0 ≡ 0
+only_index [] o e here = absurd here
+only_index (bits ∷ []) o e (inl f) = ap (λ (o : ℕ × List ℕ). o.0) f
+only_index (bits ∷ []) o e (inr h) = absurd h
+only_index (a ∷ b ∷ more) o e here = absurd (omega (arith, e))
 
 pub only_output : (ports : List (List ℕ)) → length ports ≡ 1 → (bits : List ℕ) × (slice_get ports 0 ≡ Some bits)
 only_output [] e = absurd (omega (arith, e))

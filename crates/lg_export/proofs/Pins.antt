@@ -35,10 +35,10 @@ no_clocks n clockless = no_items n.clocks (and_parts (length n.clocks == 0) (is_
 pub data_pins-are : (n : Netlist) → has_no_clock n ≡ true → data_pins n ≡ n.pins
 data_pins-are n clockless = all_data n (none_is n.clock_pin (and_parts (length n.clocks == 0) (is_none n.clock_pin) clockless).1)
 
--- a pin of a netlist, with its place
+-- a pin of a netlist, with its index
 pub record IsPinOf (n : Netlist) (input : Bool) (p : PinUse) : Type 0 where
-  pub place : ℕ
-  pub stands : slice_get n.pins place ≡ Some p
+  pub index : ℕ
+  pub stands : slice_get n.pins index ≡ Some p
   pub fits : IsFittingPin n.nets p
   pub direction : p.input ≡ input
 
@@ -47,7 +47,7 @@ pin_at n input p direction here =
     let at = at_item n.pins p here in
     let less = slice_get_within n.pins at.0 p at.1 in
     record {
-      place = at.0;
+      index = at.0;
       stands = at.1;
       fits = subst (IsFittingPin n.nets) (get_or_from_slice_get n.pins at.0 p p at.1) (n.valid.pins_fit at.0 p less);
       direction = direction;

@@ -17,13 +17,13 @@ use Rattle.lg_vtree.specs.Depth.{greatest, form_depth, depth}
 use Rattle.lg_vtree.specs.declared.expr.Expr.{Expr, fold-Expr}
 use Rattle.lg_vtree.specs.declared.expr.Expr.TheFolds.{fold-roll-Expr}
 use Rattle.lg_vtree.specs.declared.expr.Expr.TheOpen.{Expr-F}
-use Rattle.lg_vtree.specs.declared.expr.Expr.TheVariants.{rolls-Whole, rolls-Place, rolls-Part, rolls-Join}
+use Rattle.lg_vtree.specs.declared.expr.Expr.TheVariants.{rolls-Whole, rolls-Bit, rolls-Part, rolls-Join}
 use Rattle.lg_vtree.specs.declared.expr.Expr.TheVariants as expr
 use Rattle.lg_vtree.specs.declared.module.Module.{Module}
 use Rattle.lg_vrules.specs.declared.names.Sort.{Sort}
 use Rattle.lg_vrules.specs.Depends.{form_names, names_read}
 use Rattle.lg_vrules.specs.Inside.{form_inside, folded, holds_inside}
-use Rattle.lg_vrules.specs.Rules.{is_of, form_reads, reads_declared, at_most_128, place_width, part_width, sum_of, form_width, expr_width, divides_safely, index_fits, all_index}
+use Rattle.lg_vrules.specs.Rules.{is_of, form_reads, reads_declared, at_most_128, bit_width, part_width, sum_of, form_width, expr_width, divides_safely, address_fits, all_address}
 use Rattle.lg_vrules.specs.Things.{width_of, is_readable}
 use Rattle.lg_vmachine.specs.Kept.{Kept}
 use Rattle.lg_vresolve.specs.Meaning.{Valuation, joined, memory_words, form_number, number_of}
@@ -31,19 +31,19 @@ use Rattle.lg_export.specs.Layout.{NamedBit, bit_on, Run, run_of, goes_on, on_to
 
 -- each of some net bits is a bit of a name of this width
 abbrev pub FitWidths : (List ℕ → ℕ) → Netlist → List ℕ → Type 0
-FitWidths width n bits = (net : ℕ) → Contains bits net → (width (bit_on n net).name ≡ (bit_on n net).width) × ((bit_on n net).place < (bit_on n net).width)
+FitWidths width n bits = (net : ℕ) → Contains bits net → (width (bit_on n net).name ≡ (bit_on n net).width) × ((bit_on n net).index < (bit_on n net).width)
 
 -- ---- runs, bit by bit
 
 -- a run that goes on with a bit
 abbrev grown : Run → NamedBit → Run
-grown r b = record { name = r.name; width = r.width; high = b.place; low = r.low }
+grown r b = record { name = r.name; width = r.width; high = b.index; low = r.low }
 
 -- such a bit has the run's name, and is the next one
-going_on : (r : Run) (b : NamedBit) → goes_on r b ≡ true → (r.name ≡ b.name) × (r.high + 1 ≡ b.place)
+going_on : (r : Run) (b : NamedBit) → goes_on r b ≡ true → (r.name ≡ b.name) × (r.high + 1 ≡ b.index)
 going_on r b e =
-    let parts = and_parts (bytes_eq r.name b.name) (r.high + 1 == b.place) e in
-    ((bytes_eq-Decides r.name b.name).0 parts.0, eqb-true (r.high + 1) b.place parts.1)
+    let parts = and_parts (bytes_eq r.name b.name) (r.high + 1 == b.index) e in
+    ((bytes_eq-Decides r.name b.name).0 parts.0, eqb-true (r.high + 1) b.index parts.1)
 
 on_top-cases : (P : List Run → Type 0) (r : Run) (lower : List Run) (b : NamedBit) → (goes_on r b ≡ true → P (grown r b ∷ lower)) → P (run_of b ∷ r ∷ lower) → P (on_top (r ∷ lower) b)
 on_top-cases P r lower b more apart = by (goes_on r b) refl
@@ -89,8 +89,8 @@ module _ (A : Type 0) (step : Expr-F A → A) where
   fold-Whole : (name : List ℕ) → fold-Expr A step (expr.Whole name) ≡ step (Expr-F.Whole name)
   fold-Whole name = ap (λ (e : Expr). fold-Expr A step e) (sym (rolls-Whole name)) ∙ fold-roll-Expr A step (Expr-F.Whole name)
 
-  fold-Place : (name : List ℕ) (place : ℕ) → fold-Expr A step (expr.Place name place) ≡ step (Expr-F.Place name place)
-  fold-Place name place = ap (λ (e : Expr). fold-Expr A step e) (sym (rolls-Place name place)) ∙ fold-roll-Expr A step (Expr-F.Place name place)
+  fold-Bit : (name : List ℕ) (index : ℕ) → fold-Expr A step (expr.Bit name index) ≡ step (Expr-F.Bit name index)
+  fold-Bit name index = ap (λ (e : Expr). fold-Expr A step e) (sym (rolls-Bit name index)) ∙ fold-roll-Expr A step (Expr-F.Bit name index)
 
   fold-Part : (name : List ℕ) (high low : ℕ) → fold-Expr A step (expr.Part name high low) ≡ step (Expr-F.Part name high low)
   fold-Part name high low = ap (λ (e : Expr). fold-Expr A step e) (sym (rolls-Part name high low)) ∙ fold-roll-Expr A step (Expr-F.Part name high low)
@@ -100,23 +100,23 @@ module _ (A : Type 0) (step : Expr-F A → A) where
 
 -- what a run is written as where it is no whole name
 abbrev some_bits : Run → Expr
-some_bits r = if r.high == r.low then expr.Place r.name r.low else expr.Part r.name r.high r.low
+some_bits r = if r.high == r.low then expr.Bit r.name r.low else expr.Part r.name r.high r.low
 
 -- a run is written as a whole name, as one bit or as some
 run_expr-cases : (P : Expr → Type 0) (r : Run)
     → (r.high + 1 ≡ r.low + r.width → P (expr.Whole r.name))
-    → ((r.high + 1 ≡ r.low + r.width → ⊥) → r.high ≡ r.low → P (expr.Place r.name r.low))
+    → ((r.high + 1 ≡ r.low + r.width → ⊥) → r.high ≡ r.low → P (expr.Bit r.name r.low))
     → ((r.high + 1 ≡ r.low + r.width → ⊥) → (r.high ≡ r.low → ⊥) → P (expr.Part r.name r.high r.low))
     → P (run_expr r)
-run_expr-cases P r whole place part = by (r.high + 1 == r.low + r.width) refl (r.high == r.low) refl
+run_expr-cases P r whole bit part = by (r.high + 1 == r.low + r.width) refl (r.high == r.low) refl
   where
     by : (s : Bool) → (r.high + 1 == r.low + r.width) ≡ s → (t : Bool) → (r.high == r.low) ≡ t → P (run_expr r)
     by true e t f = subst P (sym (cond-true (r.high + 1 == r.low + r.width) (expr.Whole r.name) (some_bits r) e)) (whole (eqb-true (r.high + 1) (r.low + r.width) e))
     by false e true f =
-        subst P (sym (cond-false (r.high + 1 == r.low + r.width) (expr.Whole r.name) (some_bits r) e ∙ cond-true (r.high == r.low) (expr.Place r.name r.low) (expr.Part r.name r.high r.low) f))
-        (place (eqb-false (r.high + 1) (r.low + r.width) e) (eqb-true r.high r.low f))
+        subst P (sym (cond-false (r.high + 1 == r.low + r.width) (expr.Whole r.name) (some_bits r) e ∙ cond-true (r.high == r.low) (expr.Bit r.name r.low) (expr.Part r.name r.high r.low) f))
+        (bit (eqb-false (r.high + 1) (r.low + r.width) e) (eqb-true r.high r.low f))
     by false e false f =
-        subst P (sym (cond-false (r.high + 1 == r.low + r.width) (expr.Whole r.name) (some_bits r) e ∙ cond-false (r.high == r.low) (expr.Place r.name r.low) (expr.Part r.name r.high r.low) f))
+        subst P (sym (cond-false (r.high + 1 == r.low + r.width) (expr.Whole r.name) (some_bits r) e ∙ cond-false (r.high == r.low) (expr.Bit r.name r.low) (expr.Part r.name r.high r.low) f))
         (part (eqb-false (r.high + 1) (r.low + r.width) e) (eqb-false r.high r.low f))
 
 -- ---- the names that are read
@@ -125,7 +125,7 @@ run_names : (r : Run) → names_read (run_expr r) ≡ r.name ∷ []
 run_names r =
     run_expr-cases (λ e. names_read e ≡ r.name ∷ []) r
     (λ e. fold-Whole (List (List ℕ)) form_names r.name)
-    (λ e f. fold-Place (List (List ℕ)) form_names r.name r.low)
+    (λ e f. fold-Bit (List (List ℕ)) form_names r.name r.low)
     (λ e f. fold-Part (List (List ℕ)) form_names r.name r.high r.low)
 
 -- a name for each run
@@ -168,7 +168,7 @@ module _ (sort : List ℕ → Option Sort) where
   run_declared r here =
       run_expr-cases (λ e. reads_declared sort e ≡ true) r
       (λ e. fold-Whole Bool (form_reads sort) r.name ∙ here)
-      (λ e f. fold-Place Bool (form_reads sort) r.name r.low ∙ here)
+      (λ e f. fold-Bit Bool (form_reads sort) r.name r.low ∙ here)
       (λ e f. fold-Part Bool (form_reads sort) r.name r.high r.low ∙ here)
 
   all_declared : (rs : List Run) → AllByRecursion IsDeclared rs → list_all (λ e. e) (map (reads_declared sort) (map run_expr rs)) ≡ true
@@ -189,7 +189,7 @@ bits_declared sort n bits some here =
 
 -- a bit of a name of this width
 abbrev FitsBit : (List ℕ → ℕ) → NamedBit → Type 0
-FitsBit width b = (width b.name ≡ b.width) × (b.place < b.width)
+FitsBit width b = (width b.name ≡ b.width) × (b.index < b.width)
 
 -- some bits of a name of this width
 abbrev FitsRun : (List ℕ → ℕ) → Run → Type 0
@@ -202,7 +202,7 @@ grown_fits : (width : List ℕ → ℕ) (r : Run) (b : NamedBit) → FitsRun wid
 grown_fits width r b all here e =
     let next = going_on r b e in
     let same : b.width ≡ r.width = sym here.0 ∙ (ap width (sym next.0) ∙ all.0) in
-    (all.0, omega (arith, all.1, next.1), subst (λ (w : ℕ). b.place < w) same here.1)
+    (all.0, omega (arith, all.1, next.1), subst (λ (w : ℕ). b.index < w) same here.1)
 
 fitting_runs : (width : List ℕ → ℕ) (n : Netlist) (bits : List ℕ) → FitWidths width n bits → AllByRecursion (FitsRun width) (runs (map (bit_on n) bits))
 fitting_runs width n bits fit = runs-keep (FitsBit width) (FitsRun width) (run_fits width) (grown_fits width) [] (map (bit_on n) bits) tt (each_bit (FitsBit width) n bits fit)
@@ -217,7 +217,7 @@ total (r ∷ rs) = size r + total rs
 
 module _ (width : List ℕ → ℕ) where
   size_grown : (r : Run) (b : NamedBit) → FitsRun width r → goes_on r b ≡ true → size (grown r b) ≡ size r + 1
-  size_grown r b fits e = let next : r.high + 1 ≡ b.place = (going_on r b e).1 in let ordered : r.low ≤ r.high = fits.1 in omega arith
+  size_grown r b fits e = let next : r.high + 1 ≡ b.index = (going_on r b e).1 in let ordered : r.low ≤ r.high = fits.1 in omega arith
 
   total_on_top : (rs : List Run) (b : NamedBit) → AllByRecursion (FitsRun width) rs → total (on_top rs b) ≡ total rs + 1
   total_on_top [] b fits = omega arith
@@ -237,14 +237,14 @@ module _ (width : List ℕ → ℕ) where
   run_width r fits =
       run_expr-cases (λ e. expr_width width e ≡ Some (size r)) r
       (λ e. fold-Whole (Option ℕ) (form_width width) r.name ∙ ap Some (fits.0 ∙ whole e))
-      (λ e f. fold-Place (Option ℕ) (form_width width) r.name r.low ∙ place e f)
+      (λ e f. fold-Bit (Option ℕ) (form_width width) r.name r.low ∙ bit e f)
       (λ e f. fold-Part (Option ℕ) (form_width width) r.name r.high r.low ∙ part f)
     where
       whole : r.high + 1 ≡ r.low + r.width → r.width ≡ size r
       whole e = omega (arith, fits.1, fits.2)
 
-      place : (r.high + 1 ≡ r.low + r.width → ⊥) → r.high ≡ r.low → place_width (width r.name) r.low ≡ Some (size r)
-      place e f =
+      bit : (r.high + 1 ≡ r.low + r.width → ⊥) → r.high ≡ r.low → bit_width (width r.name) r.low ≡ Some (size r)
+      bit e f =
           let wide : 1 < width r.name = omega (arith, fits.0, fits.1, fits.2, e, f) in
           let within : r.low < width r.name = omega (arith, fits.0, fits.2, f) in
           let one : 1 ≡ size r = omega (arith, f) in
@@ -294,7 +294,7 @@ module _ (here : Expr-F Expr → Bool) where
   -- the test holds at each of the forms that runs are written in
   record HoldsAtRuns : Type 0 where
     whole : (name : List ℕ) → here (Expr-F.Whole name) ≡ true
-    place : (name : List ℕ) (at : ℕ) → here (Expr-F.Place name at) ≡ true
+    bit : (name : List ℕ) (at : ℕ) → here (Expr-F.Bit name at) ≡ true
     part : (name : List ℕ) (high low : ℕ) → here (Expr-F.Part name high low) ≡ true
     join : (a b : Expr) (more : List Expr) → here (Expr-F.Join a b more) ≡ true
 
@@ -302,7 +302,7 @@ module _ (here : Expr-F Expr → Bool) where
   run_inside holds r =
       run_expr-cases IsFine r
       (λ e. ap (λ (p : Expr × Bool). p.1) (fold-Whole (Expr × Bool) (form_inside here) r.name) ∙ and_from (here (Expr-F.Whole r.name)) true (holds.whole r.name) refl)
-      (λ e f. ap (λ (p : Expr × Bool). p.1) (fold-Place (Expr × Bool) (form_inside here) r.name r.low) ∙ and_from (here (Expr-F.Place r.name r.low)) true (holds.place r.name r.low) refl)
+      (λ e f. ap (λ (p : Expr × Bool). p.1) (fold-Bit (Expr × Bool) (form_inside here) r.name r.low) ∙ and_from (here (Expr-F.Bit r.name r.low)) true (holds.bit r.name r.low) refl)
       (λ e f. ap (λ (p : Expr × Bool). p.1) (fold-Part (Expr × Bool) (form_inside here) r.name r.high r.low) ∙ and_from (here (Expr-F.Part r.name r.high r.low)) true (holds.part r.name r.high r.low) refl)
 
   all_inside : HoldsAtRuns → (rs : List Run) → list_all (λ e. e) (map (λ (p : Expr × Bool). p.1) (map (folded here) (map run_expr rs))) ≡ true
@@ -324,18 +324,18 @@ module _ (here : Expr-F Expr → Bool) where
 
 pub bits_divide : (n : Netlist) (bits : List ℕ) → 0 < length bits → holds_inside divides_safely (bits_value n bits) ≡ true
 bits_divide n bits some =
-    braces_inside divides_safely (record { whole = λ name. refl; place = λ name at. refl; part = λ name high low. refl; join = λ a b more. refl }) (runs (map (bit_on n) bits))
+    braces_inside divides_safely (record { whole = λ name. refl; bit = λ name at. refl; part = λ name high low. refl; join = λ a b more. refl }) (runs (map (bit_on n) bits))
 
-pub bits_index : (sort : List ℕ → Option Sort) (width : List ℕ → ℕ) (n : Netlist) (bits : List ℕ) → 0 < length bits → all_index sort width (bits_value n bits) ≡ true
-bits_index sort width n bits some =
-    braces_inside (index_fits sort width) (record { whole = λ name. refl; place = λ name at. refl; part = λ name high low. refl; join = λ a b more. refl }) (runs (map (bit_on n) bits))
+pub bits_address : (sort : List ℕ → Option Sort) (width : List ℕ → ℕ) (n : Netlist) (bits : List ℕ) → 0 < length bits → all_address sort width (bits_value n bits) ≡ true
+bits_address sort width n bits some =
+    braces_inside (address_fits sort width) (record { whole = λ name. refl; bit = λ name at. refl; part = λ name high low. refl; join = λ a b more. refl }) (runs (map (bit_on n) bits))
 
 -- ---- depth
 
 run_depth : (r : Run) → depth (run_expr r) ≡ 1
 unfolding depth
 run_depth r =
-    run_expr-cases (λ e. depth e ≡ 1) r (λ e. fold-Whole ℕ form_depth r.name) (λ e f. fold-Place ℕ form_depth r.name r.low) (λ e f. fold-Part ℕ form_depth r.name r.high r.low)
+    run_expr-cases (λ e. depth e ≡ 1) r (λ e. fold-Whole ℕ form_depth r.name) (λ e f. fold-Bit ℕ form_depth r.name r.low) (λ e f. fold-Part ℕ form_depth r.name r.high r.low)
 
 all_depth : (rs : List Run) → greatest (map depth (map run_expr rs)) ≤ 1
 all_depth [] = omega arith
@@ -362,9 +362,9 @@ abbrev runs_number : Valuation → List Run → ℕ
 runs_number value [] = 0
 runs_number value (r ∷ rs) = run_number value r * 2 ^ total rs + runs_number value rs
 
--- a bit at its place in a number
+-- a bit at its index in a number
 abbrev bit_number : Valuation → NamedBit → ℕ
-bit_number value b = bit_at (value b.name) b.place
+bit_number value b = bit_at (value b.name) b.index
 
 -- a number of some bits with one more on top
 one_more : (n low size high : ℕ) → high ≡ low + size → n / 2 ^ low % 2 ^ (size + 1) ≡ bit_at n high * 2 ^ size + n / 2 ^ low % 2 ^ size
@@ -380,7 +380,7 @@ above digit run here lower rest = rw (pow-add 2 here lower) (omega arith)
 
 module _ (width : List ℕ → ℕ) (value : Valuation) where
   number_of_one : (b : NamedBit) → run_number value (run_of b) ≡ bit_number value b
-  number_of_one b = let one : b.place + 1 - b.place ≡ 1 = omega arith in ap (λ (k : ℕ). value b.name / 2 ^ b.place % 2 ^ k) one
+  number_of_one b = let one : b.index + 1 - b.index ≡ 1 = omega arith in ap (λ (k : ℕ). value b.name / 2 ^ b.index % 2 ^ k) one
 
   number_on_top : (rs : List Run) (b : NamedBit) → AllByRecursion (FitsRun width) rs → runs_number value (on_top rs b) ≡ bit_number value b * 2 ^ total rs + runs_number value rs
   number_on_top [] b fits = omega (arith, number_of_one b)
@@ -391,9 +391,9 @@ module _ (width : List ℕ → ℕ) (value : Valuation) where
       more e =
           let next = going_on r b e in
           let ordered : r.low ≤ r.high = fits.0.1 in
-          let place : b.place ≡ r.low + size r = omega (arith, next.1) in
+          let index : b.index ≡ r.low + size r = omega (arith, next.1) in
           ap (λ (k : ℕ). value r.name / 2 ^ r.low % 2 ^ k * 2 ^ total lower + runs_number value lower) (size_grown width r b fits.0 e)
-          ∙ (ap (λ (k : ℕ). k * 2 ^ total lower + runs_number value lower) (one_more (value r.name) r.low (size r) b.place place ∙ ap (λ (name : List ℕ). bit_at (value name) b.place * 2 ^ size r + run_number value r) next.0)
+          ∙ (ap (λ (k : ℕ). k * 2 ^ total lower + runs_number value lower) (one_more (value r.name) r.low (size r) b.index index ∙ ap (λ (name : List ℕ). bit_at (value name) b.index * 2 ^ size r + run_number value r) next.0)
           ∙ above (bit_number value b) (run_number value r) (size r) (total lower) (runs_number value lower))
 
       apart : runs_number value (run_of b ∷ r ∷ lower) ≡ bit_number value b * 2 ^ total (r ∷ lower) + runs_number value (r ∷ lower)
@@ -450,7 +450,7 @@ module _ (m : Module) (kept : Kept) (value : Valuation) where
   run_pair-is r fits =
       run_expr-cases (λ e. pair_of e ≡ run_pair r) r
       (λ e. fold-Whole (ℕ × ℕ) step r.name ∙ whole e)
-      (λ e f. fold-Place (ℕ × ℕ) step r.name r.low ∙ place f)
+      (λ e f. fold-Bit (ℕ × ℕ) step r.name r.low ∙ bit f)
       (λ e f. fold-Part (ℕ × ℕ) step r.name r.high r.low)
     where
       whole : r.high + 1 ≡ r.low + r.width → ◌≡◌ {A = ℕ × ℕ} (width_of m r.name, value r.name) (run_pair r)
@@ -462,8 +462,8 @@ module _ (m : Module) (kept : Kept) (value : Valuation) where
           sym (mod-eq_of_lt low) ∙ ap (λ (k : ℕ). k % 2 ^ size r) (sym (div-one (value r.name)) ∙ ap (λ (k : ℕ). value r.name / 2 ^ k) none) in
           λ i. ((fits.0.0 ∙ all) i, same i)
 
-      place : r.high ≡ r.low → ◌≡◌ {A = ℕ × ℕ} (1, bit_at (value r.name) r.low) (run_pair r)
-      place f = let one : 1 ≡ size r = omega (arith, f) in λ i. (one i, value r.name / 2 ^ r.low % 2 ^ one i)
+      bit : r.high ≡ r.low → ◌≡◌ {A = ℕ × ℕ} (1, bit_at (value r.name) r.low) (run_pair r)
+      bit f = let one : 1 ≡ size r = omega (arith, f) in λ i. (one i, value r.name / 2 ^ r.low % 2 ^ one i)
 
   -- words in braces below a first one
   braces_pair : (rs : List Run) (first : ℕ × ℕ) → AllByRecursion HasNumber rs
@@ -488,7 +488,7 @@ module _ (m : Module) (kept : Kept) (value : Valuation) where
 
 pub bits_number : (m : Module) (kept : Kept) (value : Valuation) (n : Netlist) (bits : List ℕ) (bit : ℕ → Bit) → 0 < length bits → FitWidths (width_of m) n bits
     → ((net : ℕ) → Contains bits net → value (bit_on n net).name < 2 ^ (bit_on n net).width)
-    → ((net : ℕ) → Contains bits net → bit_at (value (bit_on n net).name) (bit_on n net).place ≡ digit_of (bit net))
+    → ((net : ℕ) → Contains bits net → bit_at (value (bit_on n net).name) (bit_on n net).index ≡ digit_of (bit net))
     → number_of m kept value (bits_value n bits) ≡ word_number (map bit bits)
 bits_number m kept value n bits bit some fit small digits =
     braces_number m kept value (runs (map (bit_on n) bits)) (runs-some n bits some) numbers

@@ -35,24 +35,24 @@ use Rattle.lg_export.proofs.Gates.{bit_of_digit, IsDefinedBit, bit_is_defined}
 use Rattle.lg_export.proofs.Given.{Given, OfInput, OfPart, OfPin, given}
 use Rattle.lg_export.proofs.Items.{IsItem, item_at, item_of_map, numbered_at, each_item, item_contains}
 use Rattle.lg_export.proofs.Equations.{wholes, gate_number, equation_number}
-use Rattle.lg_export.proofs.Named.{all_said, said_once, input_said, output_said, x_said, w_said, found_item, attached_is, only_output, only_place, FromInput, FromOutput, FromX, FromW, Origin, origin}
+use Rattle.lg_export.proofs.Named.{all_said, said_once, input_said, output_said, x_said, w_said, found_item, attached_is, only_output, only_index, FromInput, FromOutput, FromX, FromW, Origin, origin}
 use Rattle.lg_export.proofs.Pins.{input_pin, output_pin, part_fits}
 use Rattle.lg_export.proofs.Runs.{bits_number}
 use Rattle.lg_export.proofs.Sources.{Source, FromPin, FromPart, input_source, pin_source, input_driven}
 use Rattle.lg_export.proofs.Valid.{port_width, bits_fit, first_of_part, first_narrow, wholes-are}
 
 -- the digits of a defined word's number are its bits
-digit_at : (word : List Bit) → IsDefined word → (place : ℕ) (b : Bit) → slice_get word place ≡ Some b → bit_at (word_number word) place ≡ digit_of b
+digit_at : (word : List Bit) → IsDefined word → (index : ℕ) (b : Bit) → slice_get word index ≡ Some b → bit_at (word_number word) index ≡ digit_of b
 unfolding word_of_number
-digit_at word defined place b at =
-    let less = slice_get_within word place b at in
-    let zeroth : 0 + place ≡ place = omega arith in
+digit_at word defined index b at =
+    let less = slice_get_within word index b at in
+    let zeroth : 0 + index ≡ index = omega arith in
     let n = word_number word in
     let all : map (bit_of_number n) (range_with_len 0 (length word)) ≡ word = word_of_number-number_of word defined in
-    let ranged : slice_get (range_with_len 0 (length word)) place ≡ Some place =
-    slice_get-get_or (range_with_len 0 (length word)) place 0 (omega (arith, less, length-range_with_len 0 (length word))) ∙ ap Some (get_or-range_with_len 0 (length word) place 0 less ∙ zeroth) in
-    let same : Some (bit_of_number n place) ≡ Some b = sym (slice_get-map (bit_of_number n) (range_with_len 0 (length word)) place ∙ ap (option_map (bit_of_number n)) ranged) ∙ (ap (λ (w : List Bit). slice_get w place) all ∙ at) in
-    sym (digit_of-bit_of_number n place) ∙ ap digit_of (same_Some (bit_of_number n place) b same)
+    let ranged : slice_get (range_with_len 0 (length word)) index ≡ Some index =
+    slice_get-get_or (range_with_len 0 (length word)) index 0 (omega (arith, less, length-range_with_len 0 (length word))) ∙ ap Some (get_or-range_with_len 0 (length word) index 0 less ∙ zeroth) in
+    let same : Some (bit_of_number n index) ≡ Some b = sym (slice_get-map (bit_of_number n) (range_with_len 0 (length word)) index ∙ ap (option_map (bit_of_number n)) ranged) ∙ (ap (λ (w : List Bit). slice_get w index) all ∙ at) in
+    sym (digit_of-bit_of_number n index) ∙ ap digit_of (same_Some (bit_of_number n index) b same)
 
 length-word : (v : ℕ → Bit) (bits : List ℕ) → length (word_on v bits) ≡ length bits
 length-word v [] = refl
@@ -159,18 +159,18 @@ module _ (n : Netlist) (clockless : has_no_clock n ≡ true) (accepted : IsAccep
     | inr same ↦ same
   ]
 
-  -- the bit that a net carries is the digit at its place
+  -- the bit that a net carries is the digit at its index
   abbrev HasDigit : ℕ → NamedBit → Type 0
-  HasDigit net b = (val b.name < 2 ^ b.width) × (bit_at (val b.name) b.place ≡ digit_of (v net))
+  HasDigit net b = (val b.name < 2 ^ b.width) × (bit_at (val b.name) b.index ≡ digit_of (v net))
 
   digit : (net : ℕ) → Source n net → HasDigit net (bit_on n net)
   digit net (FromPin p bit here at e) =
       let number = val_input p here in
       let below : word_number (word_on v p.bits) < 2 ^ length p.bits = subst (λ (width : ℕ). word_number (word_on v p.bits) < 2 ^ width) (length-word v p.bits) (number_of-lt (word_on v p.bits)) in
-      let place = digit_at (word_on v p.bits) (pin_word p here) bit (v net) (slice_get-map v p.bits bit ∙ ap (option_map v) at) in
-      let has : HasDigit net (record { name = input_name p; width = length p.bits; place = bit }) = (
+      let index = digit_at (word_on v p.bits) (pin_word p here) bit (v net) (slice_get-map v p.bits bit ∙ ap (option_map v) at) in
+      let has : HasDigit net (record { name = input_name p; width = length p.bits; index = bit }) = (
         subst (λ (number : ℕ). number < 2 ^ length p.bits) (sym number) below,
-        ap (λ (number : ℕ). bit_at number bit) number ∙ place,
+        ap (λ (number : ℕ). bit_at number bit) number ∙ index,
       ) in
       subst (HasDigit net) (sym e) has
   digit net (FromPart k p bits bit part output at e) =
@@ -181,10 +181,10 @@ module _ (n : Netlist) (clockless : has_no_clock n ≡ true) (accepted : IsAccep
       let below : word_number (word_on v bits) < 2 ^ output_width p.cell 0 = subst (λ (width : ℕ). word_number (word_on v bits) < 2 ^ width) (length-word v bits ∙ wide) (number_of-lt (word_on v bits)) in
       let single = part_word k p part in
       let known : IsDefined (word_on v bits) = subst IsDefined (sym (word ∙ single.1)) (All-cons IsDefinedBit (bit_of_digit single.0) [] (bit_is_defined single.0) (All-nil IsDefinedBit)) in
-      let place = digit_at (word_on v bits) known bit (v net) (slice_get-map v bits bit ∙ ap (option_map v) at) in
-      let has : HasDigit net (record { name = output_wire k 0; width = output_width p.cell 0; place = bit }) = (
+      let index = digit_at (word_on v bits) known bit (v net) (slice_get-map v bits bit ∙ ap (option_map v) at) in
+      let has : HasDigit net (record { name = output_wire k 0; width = output_width p.cell 0; index = bit }) = (
         subst (λ (number : ℕ). number < 2 ^ output_width p.cell 0) (sym number) below,
-        ap (λ (number : ℕ). bit_at number bit) number ∙ place,
+        ap (λ (number : ℕ). bit_at number bit) number ∙ index,
       ) in
       subst (HasDigit net) (sym e) has
 
@@ -228,7 +228,7 @@ module _ (n : Netlist) (clockless : has_no_clock n ≡ true) (accepted : IsAccep
           let wide = port_width (input_width p.cell) p.inputs i.0 i.1 (part_fits n k p at).input_widths is.0 is.1 in
           in_width (val (input_wire k i.0)) (input_width p.cell i.0) (word_on v i.1) (omega (arith, one_bit_input p.cell i.0)) (val_x k p i at here) (length-word v i.1 ∙ wide)
       by t (FromW k p o at here) =
-          let zeroth = only_place p.outputs o (part_fits n k p at).gives here in
+          let zeroth = only_index p.outputs o (part_fits n k p at).gives here in
           let single = part_word k p at in
           let word : cell_word p.cell (state_of states k) (inputs_of v p) o.0 ≡ bit_of_digit single.0 ∷ [] = ap (cell_word p.cell (state_of states k) (inputs_of v p)) zeroth ∙ single.1 in
           in_width (val (output_wire k o.0)) (output_width p.cell o.0) (cell_word p.cell (state_of states k) (inputs_of v p) o.0) (omega (arith, one_bit_output p.cell o.0)) (val_w k p o at here) (ap length word ∙ sym (one_bit_output p.cell o.0))

@@ -21,21 +21,21 @@ use Rattle.lg_export.proofs.Pins.{no_clocks, data_pins-are, output_pin, part_fit
 
 -- the bit that a net carries is a bit of an input pin, or of the output of a part
 pub data Source (n : Netlist) (net : ℕ) : Type 0 where
-  FromPin : (p : PinUse) (bit : ℕ) → IsItem (input_pins n) p → slice_get p.bits bit ≡ Some net → bit_on n net ≡ record { name = input_name p; width = length p.bits; place = bit } → Source n net
+  FromPin : (p : PinUse) (bit : ℕ) → IsItem (input_pins n) p → slice_get p.bits bit ≡ Some net → bit_on n net ≡ record { name = input_name p; width = length p.bits; index = bit } → Source n net
   FromPart : (k : ℕ) (p : PartUse) (bits : List ℕ) (bit : ℕ) → slice_get n.parts k ≡ Some p → slice_get p.outputs 0 ≡ Some bits → slice_get bits bit ≡ Some net
-      → bit_on n net ≡ record { name = output_wire k 0; width = output_width p.cell 0; place = bit } → Source n net
+      → bit_on n net ≡ record { name = output_wire k 0; width = output_width p.cell 0; index = bit } → Source n net
 
 is_part : (n : Netlist) (part output bit net : ℕ) (p : PartUse) (bits : List ℕ) → slice_get n.parts part ≡ Some p → slice_get p.outputs output ≡ Some bits → slice_get bits bit ≡ Some net
     → first_driver n net ≡ Some (Part part output bit) → Source n net
 is_part n part output bit net p bits at_part at_output at_bit first =
     let zeroth : output ≡ 0 = omega (arith, slice_get_within p.outputs output bits at_output, (part_fits n part p at_part).gives) in
     let at : slice_get p.outputs 0 ≡ Some bits = subst (λ (o : ℕ). slice_get p.outputs o ≡ Some bits) zeroth at_output in
-    let whole : bit_on n net ≡ bit_of n (Part part output bit) = ap (λ (d : Option Driver). unwrap_or (option_map (bit_of n) d) (record { name = []; width = 0; place = 0 })) first in
-    FromPart part p bits bit at_part at at_bit (whole ∙ (rw at_part refl ∙ ap (λ (o : ℕ). record { name = output_wire part o; width = output_width p.cell o; place = bit }) zeroth))
+    let whole : bit_on n net ≡ bit_of n (Part part output bit) = ap (λ (d : Option Driver). unwrap_or (option_map (bit_of n) d) (record { name = []; width = 0; index = 0 })) first in
+    FromPart part p bits bit at_part at at_bit (whole ∙ (rw at_part refl ∙ ap (λ (o : ℕ). record { name = output_wire part o; width = output_width p.cell o; index = bit }) zeroth))
 
 is_pin : (n : Netlist) → has_no_clock n ≡ true → (pin bit net : ℕ) (p : PinUse) → slice_get n.pins pin ≡ Some p → p.input ≡ true → slice_get p.bits bit ≡ Some net → first_driver n net ≡ Some (Pin pin bit) → Source n net
 is_pin n clockless pin bit net p at_pin input at_bit first =
-    let whole : bit_on n net ≡ bit_of n (Pin pin bit) = ap (λ (d : Option Driver). unwrap_or (option_map (bit_of n) d) (record { name = []; width = 0; place = 0 })) first in
+    let whole : bit_on n net ≡ bit_of n (Pin pin bit) = ap (λ (d : Option Driver). unwrap_or (option_map (bit_of n) d) (record { name = []; width = 0; index = 0 })) first in
     let among : IsItem (input_pins n) p =
     filter_item (λ (p : PinUse). p.input) (data_pins n) p (subst (λ (pins : List PinUse). IsItem pins p) (sym (data_pins-are n clockless)) (item_at n.pins pin p at_pin)) input in
     FromPin p bit among at_bit (whole ∙ rw at_pin refl)
@@ -64,7 +64,7 @@ pub input_source : (n : Netlist) → has_no_clock n ≡ true → IsAccepted n �
 input_source n clockless accepted k p i bits at here net on = let known = input_known n accepted k p i bits at here net on in source n clockless accepted net known.0 known.1
 
 pin_known : (n : Netlist) → has_no_clock n ≡ true → IsAccepted n → (p : PinUse) → IsItem (output_pins n) p → (net : ℕ) → Contains p.bits net → (net < n.nets) × (is_undriven n net ≡ false)
-pin_known n clockless accepted p here net on = let pin = output_pin n clockless p here in let bit = place_of p.bits net on in shown_is_driven n accepted pin.place bit.0 net p pin.stands pin.direction bit.1
+pin_known n clockless accepted p here net on = let pin = output_pin n clockless p here in let bit = place_of p.bits net on in shown_is_driven n accepted pin.index bit.0 net p pin.stands pin.direction bit.1
 
 pub pin_driven : (n : Netlist) → has_no_clock n ≡ true → IsAccepted n → (p : PinUse) → IsItem (output_pins n) p → (net : ℕ) → Contains p.bits net → is_undriven n net ≡ false
 pin_driven n clockless accepted p here net on = (pin_known n clockless accepted p here net on).1

@@ -26,7 +26,7 @@ use Rattle.lg_vrules.specs.declared.names.Sort.{Sort}
 use Rattle.lg_vrules.specs.declared.names.Sort.TheVariants as sort
 use Rattle.lg_vrules.specs.declared.names.Thing.{Thing}
 use Rattle.lg_vrules.specs.Inside.{holds_inside}
-use Rattle.lg_vrules.specs.Rules.{is_among, all_differ, is_named, are_named, is_of, reads_declared, is_target, assign_uses, is_no_clock, all_use, are_used, expr_width, assign_fits, decl_fits, is_narrow, are_narrow, are_fitting, has_each, are_assigned_once, are_stored_once, are_filled_once, are_kept_once, divides_safely, are_divided_safely, all_index, decl_words, decl_is_whole, are_indexed, assigned, first_false, first_broken}
+use Rattle.lg_vrules.specs.Rules.{is_among, all_differ, is_named, are_named, is_of, reads_declared, is_target, assign_uses, is_no_clock, all_use, are_used, expr_width, assign_fits, decl_fits, is_narrow, are_narrow, are_fitting, has_each, are_assigned_once, are_stored_once, are_filled_once, are_kept_once, divides_safely, are_divided_safely, all_address, decl_words, decl_is_whole, are_addressed, assigned, first_false, first_broken}
 use Rattle.lg_vrules.specs.Things.{range_width, port_thing, decl_thing, things, names, sort_of, width_of, is_reg, is_memory, is_assignable, is_readable}
 use Rattle.lg_vmeaning.specs.InOrder.{IsIn, AllDiffer}
 use Rattle.lg_vmeaning.proofs.ValidLemmas.{differ_both}
@@ -34,10 +34,10 @@ use Rattle.lg_export.specs.Layout.{NamedBit, numbered, range_of, input_name, out
 use Rattle.lg_export.proofs.Declared.{pin_thing, x_thing, w_thing, all_things, things-are, names_all_differ, input_declared, output_declared, x_declared, w_declared, range_width-of, one_bit_input, one_bit_output, width_by, is_of_by}
 use Rattle.lg_export.proofs.Given.{Given, OfInput, OfPart, OfPin, given, assigned-are}
 use Rattle.lg_export.proofs.Items.{IsItem, item_either, item_of_map, item_of_flat, numbered_at, flat_item, all_items, map_item, item_left, item_right}
-use Rattle.lg_export.proofs.Equations.{wholes, equation_declared, equation_width, equation_divides, equation_index}
+use Rattle.lg_export.proofs.Equations.{wholes, equation_declared, equation_width, equation_divides, equation_address}
 use Rattle.lg_export.proofs.Named.{x_names, w_names, part_names, wire_names, in_item, item_in, all_differ-from, wires_apart, output_is_no_wire, attached_is, only_output, FromInput, FromOutput, FromX, FromW, Origin, origin}
 use Rattle.lg_export.proofs.Pins.{input_pin, output_pin, part_fits, output_names_differ}
-use Rattle.lg_export.proofs.Runs.{FitWidths, bits_declared, bits_width, bits_divide, bits_index}
+use Rattle.lg_export.proofs.Runs.{FitWidths, bits_declared, bits_width, bits_divide, bits_address}
 use Rattle.lg_export.proofs.Sources.{Source, FromPin, FromPart, input_source, pin_source, fed}
 use Rattle.lg_export.proofs.WireNames.{output_name_same}
 
@@ -63,7 +63,7 @@ out_port p = record { direction = Output; range = range_of (length p.bits); name
 -- the bit is one of a name that can be read
 pub record FitsModule (m : Module) (b : NamedBit) : Type 0 where
   pub width : width_of m b.name ≡ b.width
-  pub place : b.place < b.width
+  pub index : b.index < b.width
   pub readable : is_of is_readable (sort_of m) b.name ≡ true
 
 -- an assign fits the module
@@ -74,7 +74,7 @@ pub record AssignFits (m : Module) (a : Assign) : Type 0 where
   pub declared : reads_declared (sort_of m) a.value ≡ true
   pub width : expr_width (width_of m) a.value ≡ Some (width_of m a.name)
   pub divides : holds_inside divides_safely a.value ≡ true
-  pub index : all_index (sort_of m) (width_of m) a.value ≡ true
+  pub address : all_address (sort_of m) (width_of m) a.value ≡ true
 
 module _ (n : Netlist) (clockless : has_no_clock n ≡ true) (accepted : IsAccepted n) where
   abbrev m : Module
@@ -84,9 +84,9 @@ module _ (n : Netlist) (clockless : has_no_clock n ≡ true) (accepted : IsAccep
   bit_fits net (FromPin p bit here at e) =
       let pin = input_pin n clockless p here in
       let declared = input_declared n clockless p here in
-      let fits : FitsModule m (record { name = input_name p; width = length p.bits; place = bit }) = record {
+      let fits : FitsModule m (record { name = input_name p; width = length p.bits; index = bit }) = record {
         width = width_by m (input_name p) sort.Input (length p.bits) pin.fits.some_bits declared;
-        place = slice_get_within p.bits bit net at;
+        index = slice_get_within p.bits bit net at;
         readable = is_of_by m is_readable (input_name p) (pin_thing sort.Input p) declared;
       } in
       subst (FitsModule m) (sym e) fits
@@ -95,16 +95,16 @@ module _ (n : Netlist) (clockless : has_no_clock n ≡ true) (accepted : IsAccep
       let declared = w_declared n clockless k p o part (numbered_at p.outputs 0 bits output) in
       let less = slice_get_within bits bit net at in
       let wide = port_width (output_width p.cell) p.outputs 0 bits (part_fits n k p part).output_widths output (omega (arith, less)) in
-      let fits : FitsModule m (record { name = output_wire k 0; width = output_width p.cell 0; place = bit }) = record {
+      let fits : FitsModule m (record { name = output_wire k 0; width = output_width p.cell 0; index = bit }) = record {
         width = width_by m (output_wire k 0) sort.Wire (output_width p.cell 0) (omega (arith, one_bit_output p.cell 0)) declared;
-        place = omega (arith, less, wide);
+        index = omega (arith, less, wide);
         readable = is_of_by m is_readable (output_wire k 0) (w_thing k p o) declared;
       } in
       subst (FitsModule m) (sym e) fits
 
   -- what some bits say fits, where each has a source
   pub bits_fit : (bits : List ℕ) → ((net : ℕ) → Contains bits net → Source n net) → FitWidths (width_of m) n bits
-  bits_fit bits sources net here = let f = bit_fits net (sources net here) in (f.width, f.place)
+  bits_fit bits sources net here = let f = bit_fits net (sources net here) in (f.width, f.index)
 
   readable_bits : (bits : List ℕ) → ((net : ℕ) → Contains bits net → Source n net) → (net : ℕ) → Contains bits net → is_of is_readable (sort_of m) (bit_on n net).name ≡ true
   readable_bits bits sources net here = (bit_fits net (sources net here)).readable
@@ -150,7 +150,7 @@ module _ (n : Netlist) (clockless : has_no_clock n ≡ true) (accepted : IsAccep
         declared = bits_declared (sort_of m) n i.1 is.1 (readable_bits i.1 sources);
         width = bits_width (width_of m) n i.1 is.1 (omega (arith, wide, one)) (bits_fit i.1 sources) ∙ ap Some (wide ∙ sym (width_by m name sort.Wire (input_width p.cell i.0) (omega (arith, one)) declared));
         divides = bits_divide n i.1 is.1;
-        index = bits_index (sort_of m) (width_of m) n i.1 is.1;
+        address = bits_address (sort_of m) (width_of m) n i.1 is.1;
       }
   assign_fits_module a (OfPart k p at) =
       let fits = part_fits n k p at in
@@ -169,7 +169,7 @@ module _ (n : Netlist) (clockless : has_no_clock n ≡ true) (accepted : IsAccep
         width = ap (λ (es : List Expr). expr_width (width_of m) (equation p.cell es)) written ∙ (equation_width (width_of m) p.cell first.0 first.1 (λ other here. (each other here).0)
             ∙ ap Some (sym (width_by m name sort.Wire (output_width p.cell 0) (omega (arith, one)) declared ∙ one)));
         divides = ap (λ (es : List Expr). holds_inside divides_safely (equation p.cell es)) written ∙ equation_divides p.cell first.0 first.1;
-        index = ap (λ (es : List Expr). all_index (sort_of m) (width_of m) (equation p.cell es)) written ∙ equation_index (sort_of m) (width_of m) p.cell first.0 first.1;
+        address = ap (λ (es : List Expr). all_address (sort_of m) (width_of m) (equation p.cell es)) written ∙ equation_address (sort_of m) (width_of m) p.cell first.0 first.1;
       }
   assign_fits_module a (OfPin p here) =
       let pin = output_pin n clockless p here in
@@ -184,7 +184,7 @@ module _ (n : Netlist) (clockless : has_no_clock n ≡ true) (accepted : IsAccep
         declared = bits_declared (sort_of m) n p.bits (omega (arith, some)) (readable_bits p.bits sources);
         width = bits_width (width_of m) n p.bits (omega (arith, some)) (omega (arith, pin.fits.few_bits)) (bits_fit p.bits sources) ∙ ap Some (sym (width_by m name sort.Output (length p.bits) some declared));
         divides = bits_divide n p.bits (omega (arith, some));
-        index = bits_index (sort_of m) (width_of m) n p.bits (omega (arith, some));
+        address = bits_address (sort_of m) (width_of m) n p.bits (omega (arith, some));
       }
 
   each_fits : (a : Assign) → IsItem (module_assigns n) a → AssignFits m a
@@ -340,12 +340,12 @@ module _ (n : Netlist) (clockless : has_no_clock n ≡ true) (accepted : IsAccep
   no_words [] none = refl
   no_words (d ∷ decls) none = sum_by-cons decl_words d decls ∙ omega (arith, none d (inl refl), no_words decls (λ e h. none e (inr h)))
 
-  rule_7 : are_indexed (sort_of m) (width_of m) m ≡ true
+  rule_7 : are_addressed (sort_of m) (width_of m) m ≡ true
   rule_7 =
       and_from (list_all decl_is_whole m.decls && nat_le (sum_by decl_words m.decls) 1048576) _
       (and_from (list_all decl_is_whole m.decls) (nat_le (sum_by decl_words m.decls) 1048576) (each_decl decl_is_whole (λ name e. refl))
       (ap (λ (words : ℕ). nat_le words 1048576) (no_words m.decls (λ d here. ap decl_words (decl_is d here).1))))
-      (and_from (list_all (λ (a : Assign). all_index (sort_of m) (width_of m) a.value) m.assigns) true (all_items (λ (a : Assign). all_index (sort_of m) (width_of m) a.value) (module_assigns n) (λ a here. (each_fits a here).index)) refl)
+      (and_from (list_all (λ (a : Assign). all_address (sort_of m) (width_of m) a.value) m.assigns) true (all_items (λ (a : Assign). all_address (sort_of m) (width_of m) a.value) (module_assigns n) (λ a here. (each_fits a here).address)) refl)
 
   pub keeps_rules : first_broken m ≡ None
   keeps_rules = all_hold rule_1 rule_2 rule_3 rule_4 rule_5 rule_6 rule_7

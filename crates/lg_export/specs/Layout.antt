@@ -26,7 +26,7 @@ use Rattle.lg_vtree.specs.declared.expr.Expr.TheVariants as expr
 use Rattle.lg_vtree.specs.declared.module.Assign.{Assign}
 use Rattle.lg_vtree.specs.declared.module.Module.{Module}
 
--- a port of a part, or an item of a list, with its place
+-- a port of a part, or an item of a list, with its index
 abbrev pub numbered : {A : Type 0} → List A → List (ℕ × A)
 numbered items = enumerate_from 0 items
 
@@ -48,11 +48,11 @@ output_wire part output = codes "w" ++ decimal part ++ codes "_" ++ decimal outp
 pub record NamedBit : Type 0 where
   pub name : List ℕ
   pub width : ℕ
-  pub place : ℕ
+  pub index : ℕ
 
 -- the bit that a driver is: of an output's wire, of an input port, or the clock
 abbrev pub bit_of : Netlist → Driver → NamedBit
-bit_of n (Part part output bit) = record { name = output_wire part output; width = width_in (slice_get n.parts part) output; place = bit }
+bit_of n (Part part output bit) = record { name = output_wire part output; width = width_in (slice_get n.parts part) output; index = bit }
   where
     width_in : Option PartUse → ℕ → ℕ
     width_in None output = 0
@@ -60,13 +60,13 @@ bit_of n (Part part output bit) = record { name = output_wire part output; width
 bit_of n (Pin pin bit) = in_pin (slice_get n.pins pin) bit
   where
     in_pin : Option PinUse → ℕ → NamedBit
-    in_pin None bit = record { name = []; width = 0; place = bit }
-    in_pin (Some p) bit = record { name = input_name p; width = length p.bits; place = bit }
-bit_of n (Clock clock) = record { name = codes "clk"; width = 1; place = 0 }
+    in_pin None bit = record { name = []; width = 0; index = bit }
+    in_pin (Some p) bit = record { name = input_name p; width = length p.bits; index = bit }
+bit_of n (Clock clock) = record { name = codes "clk"; width = 1; index = 0 }
 
 -- the bit that a net carries: that of its first driver
 abbrev pub bit_on : Netlist → ℕ → NamedBit
-bit_on n net = unwrap_or (option_map (bit_of n) (first_driver n net)) (record { name = []; width = 0; place = 0 })
+bit_on n net = unwrap_or (option_map (bit_of n) (first_driver n net)) (record { name = []; width = 0; index = 0 })
 
 -- bits of one name in a row, from a high one down to a low one
 pub record Run : Type 0 where
@@ -76,17 +76,17 @@ pub record Run : Type 0 where
   pub low : ℕ
 
 abbrev pub run_of : NamedBit → Run
-run_of b = record { name = b.name; width = b.width; high = b.place; low = b.place }
+run_of b = record { name = b.name; width = b.width; high = b.index; low = b.index }
 
 -- the bit is the next one above the run
 abbrev pub goes_on : Run → NamedBit → Bool
-goes_on r b = bytes_eq r.name b.name && r.high + 1 == b.place
+goes_on r b = bytes_eq r.name b.name && r.high + 1 == b.index
 
 -- a bit on top of some runs, of which the highest stands first
 abbrev pub on_top : List Run → NamedBit → List Run
 on_top [] b = run_of b ∷ []
 on_top (r ∷ lower) b =
-    if goes_on r b then record { name = r.name; width = r.width; high = b.place; low = r.low } ∷ lower else run_of b ∷ r ∷ lower
+    if goes_on r b then record { name = r.name; width = r.width; high = b.index; low = r.low } ∷ lower else run_of b ∷ r ∷ lower
 
 -- the runs of some bits, which are given from bit 0 up: the highest run first, each as long as it can be
 abbrev pub runs : List NamedBit → List Run
@@ -95,7 +95,7 @@ runs bits = fold on_top [] bits
 -- a whole name, one bit of it, or some
 abbrev pub run_expr : Run → Expr
 run_expr r =
-    if r.high + 1 == r.low + r.width then expr.Whole r.name else (if r.high == r.low then expr.Place r.name r.low else expr.Part r.name r.high r.low)
+    if r.high + 1 == r.low + r.width then expr.Whole r.name else (if r.high == r.low then expr.Bit r.name r.low else expr.Part r.name r.high r.low)
 
 -- two or more stand in braces
 abbrev pub in_braces : List Expr → Expr
@@ -111,7 +111,7 @@ bits_value n bits = in_braces (map run_expr (runs (map (bit_on n) bits)))
 abbrev pub range_of : ℕ → Option ℕ
 range_of width = if width == 1 then None else Some (width - 1)
 
--- the attached inputs of a part, with their places
+-- the attached inputs of a part, with their indexes
 abbrev pub attached : PartUse → List (ℕ × List ℕ)
 attached p = filter (λ (i : ℕ × List ℕ). not (length i.1 == 0)) (numbered p.inputs)
 

@@ -15,7 +15,7 @@ as_run r = record { name = r.name; width = r.width; high = r.high; low = r.low }
 
 -- the bit that is the highest of a run
 abbrev pub as_bit : Held → NamedBit
-as_bit r = record { name = r.name; width = r.width; place = r.high }
+as_bit r = record { name = r.name; width = r.width; index = r.high }
 
 abbrev pub stack : Held → List Held → List Run
 stack top lower = as_run top ∷ map as_run (reverse lower)

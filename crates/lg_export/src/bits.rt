@@ -81,7 +81,7 @@ impl Run {
         if u64::from(self.high) + 1 == u64::from(self.low) + u64::from(self.width) {
             Expr::Whole(self.name)
         } else if self.high == self.low {
-            Expr::Place(self.name, u128::from(self.low))
+            Expr::Bit(self.name, u128::from(self.low))
         } else {
             Expr::Part(self.name, u128::from(self.high), u128::from(self.low))
         }

@@ -190,7 +190,7 @@ same_outputs : (m : Module) → IsValid m → (file bytes : List ℕ) (a b : Due
 same_outputs m valid file bytes (Writes s text) (Writes t other) h k = ap (λ (x : Status). Writes x text) (h.0 ∙ sym k.0) ∙ ap (Writes t) (one_text m valid bytes text other h.1 k.1)
 same_outputs m valid file bytes (Writes s text) (Stops why about) h (k, e) = absurd (no_rows_fault m valid bytes text k.0 (told_rows k.0 k.2) k.1 h.1)
 same_outputs m valid file bytes (Stops why about) (Writes s text) (h, e) k = absurd (no_rows_fault m valid bytes text h.0 (told_rows h.0 h.2) h.1 k.1)
-same_outputs m valid file bytes (Stops why about) (Stops other place) (h, e) (k, f) =
+same_outputs m valid file bytes (Stops why about) (Stops other subject) (h, e) (k, f) =
     let fault : h.0 ≡ k.0 = one_rows_fault m valid bytes h.0 k.0 (told_rows h.0 h.2) (told_rows k.0 k.2) h.1 k.1 in
     ap (λ (x : Stop). Stops x about) (h.3 ∙ (ap rows_stop fault ∙ sym k.3)) ∙ ap (Stops other) (e ∙ sym f)
 

@@ -49,7 +49,7 @@ module _ (n : Netlist) (none : has_no_clock n ≡ true) (accepted : IsAccepted n
 
   static_text : IsValid m → (bytes text : List ℕ) → IsRowsText m bytes text → IsStaticText n bytes text
   static_text valid bytes text (outs, are, printed) =
-      let fit = rows_fit (lines_of is_input m) are.given.columns are.given.places (pins_differ m valid) are.given.bound are.given.whole are.given.rows are.inputs (vector_wide bytes are.given.columns are.given.rows are.given.says) are.are_inputs in
+      let fit = rows_fit (lines_of is_input m) are.given.columns are.given.indexes (pins_differ m valid) are.given.bound are.given.whole are.given.rows are.inputs (vector_wide bytes are.given.columns are.given.rows are.given.says) are.are_inputs in
       let words = words_of are.inputs fit in
       let some = some_rows n none accepted (start_states n) words.0 words.1 in
       let follows = from_start n none accepted words.0 some.0 words.1 some.1 in

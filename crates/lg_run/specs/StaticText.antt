@@ -18,7 +18,7 @@ pub record IsStaticText (n : Netlist) (bytes text : List ℕ) : Type 0 where
   pub defined : All IsDefinedRow given.rows
   pub rows : Rows
   pub are_rows : AllByRecursion (static.IsDefinedRow (static.input_pins n)) rows
-  pub are_inputs : AllZip (AreInputs (length (input_pins (module_of n))) given.places) given.rows (numbers_of rows)
+  pub are_inputs : AllZip (AreInputs (length (input_pins (module_of n))) given.indexes) given.rows (numbers_of rows)
   pub outs : Rows
   pub static_rows : AreStaticRows n (start_states n) rows outs
   pub outs_defined : AllByRecursion (AllByRecursion IsDefined) outs

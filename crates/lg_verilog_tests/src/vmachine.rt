@@ -64,12 +64,12 @@ fn parts_of_words_and_joins(rt: HostRuntime) -> Result<(), Fail> {
     let alloc = rt.alloc();
     let numbers = [0xabcd, MAX];
     let middle = Term::Part {
-        place: 0,
+        index: 0,
         low: 4,
         width: 8,
     };
     let top = Term::Part {
-        place: 1,
+        index: 1,
         low: 124,
         width: 4,
     };
@@ -111,7 +111,7 @@ fn counter(alloc: Global) -> Result<Machine, AllocError> {
     machine.registers.push(Some(Term::Number(4)))?;
     machine.memories.push(Some(Write {
         condition: Term::Number(0),
-        place: Term::Number(0),
+        address: Term::Number(0),
         value: Term::Number(3),
     }))?;
     Ok(machine)
@@ -145,7 +145,7 @@ fn an_edge_reads_the_word_that_it_writes(rt: HostRuntime) -> Result<(), Fail> {
 }
 
 #[test]
-fn outputs_are_the_numbers_at_their_places(rt: HostRuntime) -> Result<(), Fail> {
+fn outputs_are_the_numbers_at_their_indexes(rt: HostRuntime) -> Result<(), Fail> {
     let alloc = rt.alloc();
     let machine = counter(alloc)?;
     let outputs = machine

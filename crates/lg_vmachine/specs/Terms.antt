@@ -1,4 +1,4 @@
--- The numbers of expressions over places, as they are computed.
+-- The numbers of expressions over indexes, as they are computed.
 use Rattle.std.specs.Prelude.{ℕ, ◌+◌, ◌-◌, ◌*◌, ◌/◌, ◌%◌, ◌^◌, ◌==◌, nat_lt, min, Bool, true, false, List, [], Option, unwrap_or, fold, slice_index_or, if◌then◌else◌, bit_and, bit_or, bit_xor}
 use Rattle.lg_vtree.specs.declared.expr.Operator.{Operator}
 use Rattle.lg_vtree.specs.declared.expr.Operator.TheVariants as operator
@@ -30,8 +30,8 @@ wide_operation operator.ShiftRight width a b = a / 2 ^ b
 
 abbrev pub form_term : List ℕ → List (List ℕ) → Term-F ℕ → ℕ
 form_term numbers memories (Term-F.Const value) = value
-form_term numbers memories (Term-F.Number place) = slice_index_or numbers place 0
-form_term numbers memories (Term-F.Part place low width) = slice_index_or numbers place 0 / 2 ^ low % 2 ^ width
+form_term numbers memories (Term-F.Number index) = slice_index_or numbers index 0
+form_term numbers memories (Term-F.Part index low width) = slice_index_or numbers index 0 / 2 ^ low % 2 ^ width
 form_term numbers memories (Term-F.Item memory e) = slice_index_or (slice_index_or memories memory []) e 0
 form_term numbers memories (Term-F.Join a width b) = ((a * 2 ^ width) % 2 ^ 128 + b) % 2 ^ 128
 form_term numbers memories (Term-F.Not width e) = 2 ^ min width 128 - 1 - e

@@ -1,4 +1,4 @@
-//! Equations over places, ready to be computed, and what an edge stores.
+//! Equations over indexes, ready to be computed, and what an edge stores.
 #![tactic(auto)]
 
 mod arithmetic;

@@ -1,4 +1,4 @@
-//! Equations over places, ready to run.
+//! Equations over indexes, ready to run.
 
 ghost use Rattle.std.specs.Prelude.{◌≡◌, ◌++◌, ◌<◌, ◌^◌, All, Some, IfOk, OnOk, OnErr, map, zip, slice_index_or};
 ghost use Rattle.lg_vmachine.specs.Machine.{run, next_number, written, put_words, put_word, stored_by};
@@ -14,7 +14,7 @@ use std::alloc::{AllocError, Global};
 pub struct Machine {
     /// What the assigns give, each after those that it reads.
     pub equations: Items<Term>,
-    /// The places of the outputs' numbers.
+    /// The indexes of the outputs' numbers.
     pub outputs: Items<usize>,
     /// What an edge stores into each register.
     pub registers: Items<Option<Term>>,
@@ -22,11 +22,11 @@ pub struct Machine {
     pub memories: Items<Option<Write>>,
 }
 
-/// A store into a memory: a value at a place, where the condition is not 0.
+/// A store into a memory: a value at an address, where the condition is not 0.
 #[derive(Debug, Drop)]
 pub struct Write {
     pub condition: Term,
-    pub place: Term,
+    pub address: Term,
     pub value: Term,
 }
 
@@ -51,12 +51,12 @@ impl Machine {
 
     /// The outputs among the numbers of a solution.
     pub fn outputs(&self, alloc: Global, numbers: &[u128]) -> Result<Vec<u64>, Memory>
-        requires { All (λ place. slice_index_or numbers.now place 0 < 2 ^ 64) self.now.outputs }
-        ensures { IfOk result (λ outputs. outputs.items ≡ map (λ place. slice_index_or numbers.now place 0) self.now.outputs) }
+        requires { All (λ index. slice_index_or numbers.now index 0 < 2 ^ 64) self.now.outputs }
+        ensures { IfOk result (λ outputs. outputs.items ≡ map (λ index. slice_index_or numbers.now index 0) self.now.outputs) }
     {
         let mut outputs = Vec::new(alloc);
-        for place in self.outputs.as_slice() {
-            outputs.push(numbers.get(*place).copied().unwrap_or(0) as u64)?;
+        for index in self.outputs.as_slice() {
+            outputs.push(numbers.get(*index).copied().unwrap_or(0) as u64)?;
         }
         Ok(outputs)
     }
@@ -109,7 +109,7 @@ impl Machine {
 }
 
 impl Write {
-    // The place and the value that are written; none where the condition is 0.
+    // The address and the value that are written; none where the condition is 0.
     fn word(&self, numbers: &[u128], memories: &[Items<u128>]) -> Option<(u128, u128)>
         ensures { result ≡ written memories.now numbers.now (Some self.now) }
     {
@@ -117,7 +117,7 @@ impl Write {
             None
         } else {
             Some((
-                self.place.number(numbers, memories),
+                self.address.number(numbers, memories),
                 self.value.number(numbers, memories),
             ))
         }
@@ -138,22 +138,22 @@ fn word_of(
     }
 }
 
-// Puts words into memories, each into the one at its place.
+// Puts words into memories, each into the one at its index.
 fn put_words(memories: &mut Vec<Items<u128>>, words: &[Option<(u128, u128)>])
     ensures { memories.new.items ≡ put_words 0 words.now memories.old.items }
 {
     for (at, word) in words.iter().enumerate() {
-        if let Some((place, value)) = word {
-            put_word(memories, at, *place, *value);
+        if let Some((address, value)) = word {
+            put_word(memories, at, *address, *value);
         }
     }
 }
 
-/// Puts a word at a place of one of the memories, where there is that place.
-pub fn put_word(memories: &mut Vec<Items<u128>>, memory: usize, place: u128, value: u128)
-    ensures { memories.new.items ≡ put_word memories.old.items memory place value }
+/// Puts a word at an address of one of the memories, where there is that address.
+pub fn put_word(memories: &mut Vec<Items<u128>>, memory: usize, address: u128, value: u128)
+    ensures { memories.new.items ≡ put_word memories.old.items memory address value }
 {
-    if memory < memories.len() && place < memories[memory].len() as u128 {
-        memories[memory].set(place as usize, value);
+    if memory < memories.len() && address < memories[memory].len() as u128 {
+        memories[memory].set(address as usize, value);
     }
 }

@@ -1,4 +1,4 @@
-//! Expressions that are ready to be computed: names are places, and widths are known.
+//! Expressions that are ready to be computed: names are indexes, and widths are known.
 
 ghost use Rattle.std.specs.Prelude.{◌≡◌, [], slice_index_or};
 ghost use Rattle.lg_vmachine.specs.Terms.{term_number};
@@ -11,15 +11,15 @@ use sqlite_items::{Boxed, Items};
 #[derive(Debug, Drop)]
 pub enum Term {
     Const(u128),
-    /// The number at a place.
+    /// The number at an index.
     Number(usize),
-    /// So many bits, from the lowest of them on, of the number at a place.
+    /// So many bits, from the lowest of them on, of the number at an index.
     Part {
-        place: usize,
+        index: usize,
         low: u128,
         width: u128,
     },
-    /// A word of the memory at a place.
+    /// A word of the memory at an index.
     Item(usize, Boxed<Term>),
     /// The first above the second, which has this width.
     Join(Boxed<Term>, u128, Boxed<Term>),
@@ -39,12 +39,12 @@ impl Term {
     {
         match self {
             Term::Const(value) => *value,
-            Term::Number(place) => number_at(numbers, *place),
-            Term::Part { place, low, width } => {
-                cut(*width, shift_right(number_at(numbers, *place), *low))
+            Term::Number(index) => number_at(numbers, *index),
+            Term::Part { index, low, width } => {
+                cut(*width, shift_right(number_at(numbers, *index), *low))
             }
-            Term::Item(memory, place) => {
-                word_at(memories, *memory, place.get().number(numbers, memories))
+            Term::Item(memory, address) => {
+                word_at(memories, *memory, address.get().number(numbers, memories))
             }
             Term::Join(high, width, low) => {
                 let high = shift_left(high.get().number(numbers, memories), *width);
@@ -68,21 +68,21 @@ impl Term {
     }
 }
 
-fn number_at(numbers: &[u128], place: usize) -> u128
-    ensures { result ≡ slice_index_or numbers.now place 0 }
+fn number_at(numbers: &[u128], index: usize) -> u128
+    ensures { result ≡ slice_index_or numbers.now index 0 }
 {
-    numbers.get(place).copied().unwrap_or(0)
+    numbers.get(index).copied().unwrap_or(0)
 }
 
-fn word_at(memories: &[Items<u128>], memory: usize, place: u128) -> u128
-    ensures { result ≡ slice_index_or (slice_index_or memories.now memory []) place 0 }
+fn word_at(memories: &[Items<u128>], memory: usize, address: u128) -> u128
+    ensures { result ≡ slice_index_or (slice_index_or memories.now memory []) address 0 }
 {
     let Some(words) = memories.get(memory) else {
         return 0;
     };
     let words = words.as_slice();
-    match usize::try_from(place) {
-        Ok(place) => number_at(words, place),
+    match usize::try_from(address) {
+        Ok(address) => number_at(words, address),
         Err(_) => 0,
     }
 }

@@ -12,8 +12,8 @@ use Rattle.lg_vtree.specs.declared.module.Stmt.TheVariants as stmt
 use Rattle.lg_vtree.specs.declared.module.Module.{Module}
 use Rattle.lg_vrules.specs.Things.{sort_of, width_of, lines_of, names_of, is_input, is_reg, is_memory}
 use Rattle.lg_vrules.specs.Order.{IsOrder}
-use Rattle.lg_vrules.specs.Rules.{is_of, is_no_clock, assign_uses, stmt_uses, reads_declared, expr_width, is_width, stmt_fits, last_place, stmts_of, stored_name, first_broken}
-use Rattle.lg_vrules.proofs.IndexLemmas.{narrow_widths}
+use Rattle.lg_vrules.specs.Rules.{is_of, is_no_clock, assign_uses, stmt_uses, reads_declared, expr_width, is_width, stmt_fits, last_address, stmts_of, stored_name, first_broken}
+use Rattle.lg_vrules.proofs.NameIndexLemmas.{narrow_widths}
 use Rattle.lg_vrules.proofs.RuleLemmas.{rules_kept}
 use Rattle.lg_vmachine.specs.Kept.{Kept}
 use Rattle.lg_vresolve.specs.Meaning.{Valuation, number_of}
@@ -50,7 +50,7 @@ pub record IsExpr (m : Module) (e : Expr) (width : ℕ) : Type 0 where
 -- the statement stores into this name, and the rules hold of its expressions
 abbrev pub StoresInto : Module → List ℕ → Stmt → Type 0
 StoresInto m name (stmt.Store other e) = (other ≡ name) × IsExpr m e (width_of m name)
-StoresInto m name (stmt.StoreIf condition other place e) = (other ≡ name) × IsExpr m condition 1 × ((w : ℕ) × IsExpr m place w) × IsExpr m e (width_of m name)
+StoresInto m name (stmt.StoreIf condition other address e) = (other ≡ name) × IsExpr m condition 1 × ((w : ℕ) × IsExpr m address w) × IsExpr m e (width_of m name)
 
 -- what the rules say of a statement for a name
 stores_into : (m : Module) (name : List ℕ) (s : Stmt) → stored_name s ≡ name → stmt_uses (sort_of m) s ≡ true → stmt_fits (width_of m) s ≡ true → StoresInto m name s
@@ -61,15 +61,15 @@ stores_into m name (stmt.Store other e) same uses fit = (
     is_wide = width_is (expr_width (width_of m) e) (width_of m name) (subst (λ (n : List ℕ). is_width (width_of m) (width_of m n) e ≡ true) same fit);
   },
 )
-stores_into m name (stmt.StoreIf condition other place e) same uses fit =
+stores_into m name (stmt.StoreIf condition other address e) same uses fit =
     let sort = sort_of m in
     let width = width_of m in
-    let named = and_parts (is_of is_memory sort other) (reads_declared sort condition && (reads_declared sort place && reads_declared sort e)) uses in
-    let first = and_parts (reads_declared sort condition) (reads_declared sort place && reads_declared sort e) named.1 in
-    let second = and_parts (reads_declared sort place) (reads_declared sort e) first.1 in
-    let one = and_parts (is_width width 1 condition) (is_some (expr_width width place) && is_width width (width other) e) fit in
-    let rest = and_parts (is_some (expr_width width place)) (is_width width (width other) e) one.1 in
-    let w = some_width (expr_width width place) rest.0 in (
+    let named = and_parts (is_of is_memory sort other) (reads_declared sort condition && (reads_declared sort address && reads_declared sort e)) uses in
+    let first = and_parts (reads_declared sort condition) (reads_declared sort address && reads_declared sort e) named.1 in
+    let second = and_parts (reads_declared sort address) (reads_declared sort e) first.1 in
+    let one = and_parts (is_width width 1 condition) (is_some (expr_width width address) && is_width width (width other) e) fit in
+    let rest = and_parts (is_some (expr_width width address)) (is_width width (width other) e) one.1 in
+    let w = some_width (expr_width width address) rest.0 in (
       same,
       record { reads = first.0; is_wide = width_is (expr_width width condition) 1 one.0 },
       (w.0, record { reads = second.0; is_wide = w.1 }),
@@ -98,7 +98,7 @@ registers_are f g h same (name ∷ names) (old ∷ numbers) = λ i. same name ol
 -- the words of a memory after a write, if there is one
 abbrev put : Option (ℕ × ℕ) → List ℕ → List ℕ
 put None words = words
-put (Some (place, value)) words = slice_set words place value
+put (Some (address, value)) words = slice_set words address value
 
 -- writes into all memories but the first
 put_later : (writes : List (Option (ℕ × ℕ))) (at : ℕ) (first : List ℕ) (memories : List (List ℕ)) → put_words (suc at) writes (first ∷ memories) ≡ first ∷ put_words at writes memories
@@ -106,15 +106,15 @@ put_later [] at first memories = refl
 put_later (None ∷ writes) at first memories =
     let next : suc at + 1 ≡ suc (at + 1) = omega arith in
     ap (λ (n : ℕ). put_words n writes (first ∷ memories)) next ∙ put_later writes (at + 1) first memories
-put_later (Some (place, value) ∷ writes) at first memories =
+put_later (Some (address, value) ∷ writes) at first memories =
     let next : suc at + 1 ≡ suc (at + 1) = omega arith in
-    let after = put_word memories at place value in
+    let after = put_word memories at address value in
     ap (λ (n : ℕ). put_words n writes (first ∷ after)) next ∙ put_later writes (at + 1) first after
 
 -- a write into the first memory
 put_first : (write : Option (ℕ × ℕ)) (writes : List (Option (ℕ × ℕ))) (first : List ℕ) (memories : List (List ℕ)) → put_words 0 (write ∷ writes) (first ∷ memories) ≡ put write first ∷ put_words 0 writes memories
 put_first None writes first memories = put_later writes 0 first memories
-put_first (Some (place, value)) writes first memories = put_later writes 0 (slice_set first place value) memories
+put_first (Some (address, value)) writes first memories = put_later writes 0 (slice_set first address value) memories
 
 -- words that are the same name by name
 memories_are : (f : List ℕ → Option Write) (g : Option Write → Option (ℕ × ℕ)) (h : List ℕ × List ℕ → List ℕ) → ((name : List ℕ) (words : List ℕ) → put (g (f name)) words ≡ h (name, words))
@@ -134,9 +134,9 @@ as_many m (l ∷ lines) [] are = absurd are
 as_many m (l ∷ lines) (words ∷ memories) are = ap suc (as_many m lines memories are.2)
 
 -- a write behind a test
-put_choice : (none : Bool) (words : List ℕ) (place value : ℕ) → put (cond none None (Some (place, value))) words ≡ cond none words (slice_set words place value)
-put_choice true words place value = refl
-put_choice false words place value = refl
+put_choice : (none : Bool) (words : List ℕ) (address value : ℕ) → put (cond none None (Some (address, value))) words ≡ cond none words (slice_set words address value)
+put_choice true words address value = refl
+put_choice false words address value = refl
 
 -- over these numbers the terms of a module's expressions have the numbers of the expressions
 abbrev pub AreRight : Module → List ℕ → Kept → Valuation → List ℕ → Type 0
@@ -151,7 +151,7 @@ module _ (m : Module) (order : List ℕ) (broken : first_broken m ≡ None) (kep
       step : (o : Option Stmt) → stmt_for m name ≡ o → next_number kept.memories numbers (next_of m order o, old) ≡ number_after m kept value (name, old)
       step None e = rw e refl
       step (Some (stmt.Store other v)) e = let s = found_stmt m broken name (stmt.Store other v) e in rw e (right v (width_of m name) s.1.reads s.1.is_wide)
-      step (Some (stmt.StoreIf condition other place v)) e = rw e refl
+      step (Some (stmt.StoreIf condition other address v)) e = rw e refl
 
   -- what is stored into a memory
   memory_is : (name : List ℕ) (words : List ℕ) → put (written kept.memories numbers (write_of m order (stmt_for m name))) words ≡ words_after m kept value (name, words)
@@ -160,13 +160,13 @@ module _ (m : Module) (order : List ℕ) (broken : first_broken m ≡ None) (kep
       step : (o : Option Stmt) → stmt_for m name ≡ o → put (written kept.memories numbers (write_of m order o)) words ≡ words_after m kept value (name, words)
       step None e = rw e refl
       step (Some (stmt.Store other v)) e = rw e refl
-      step (Some (stmt.StoreIf condition other place v)) e =
-          let s = found_stmt m broken name (stmt.StoreIf condition other place v) e in
+      step (Some (stmt.StoreIf condition other address v)) e =
+          let s = found_stmt m broken name (stmt.StoreIf condition other address v) e in
           let test = right condition 1 s.1.reads s.1.is_wide in
-          let at = right place s.2.0 s.2.1.reads s.2.1.is_wide in
+          let at = right address s.2.0 s.2.1.reads s.2.1.is_wide in
           let word = right v (width_of m name) s.3.reads s.3.is_wide in
           rw e ((λ i. put (cond (nat_eq (test i) 0) None (Some (at i, word i))) words)
-          ∙ put_choice (nat_eq (number_of m kept value condition) 0) words (number_of m kept value place) (number_of m kept value v))
+          ∙ put_choice (nat_eq (number_of m kept value condition) 0) words (number_of m kept value address) (number_of m kept value v))
 
 -- what stays in its widths
 
@@ -178,9 +178,9 @@ numbers_stay h [] (old ∷ numbers) each are = absurd are
 numbers_stay h (l ∷ lines) [] each are = absurd are
 numbers_stay h (l ∷ lines) (old ∷ numbers) each are = (each l old (inl refl) are.0, numbers_stay h lines numbers (λ other old here. each other old (inr here)) are.1)
 
--- as many words as the memory has places, each of which its width can hold
+-- as many words as the memory has addresses, each of which its width can hold
 abbrev AreWords : Module → List ℕ × ℕ → List ℕ → Type 0
-AreWords m l words = (length words ≡ last_place (sort_of m l.0) + 1) × AllBelow (2 ^ l.1) words
+AreWords m l words = (length words ≡ last_address (sort_of m l.0) + 1) × AllBelow (2 ^ l.1) words
 
 -- words fit as before where each memory's new ones do
 memories_stay : (m : Module) (h : List ℕ × List ℕ → List ℕ) (lines : List (List ℕ × ℕ)) (memories : List (List ℕ)) → ((l : List ℕ × ℕ) (words : List ℕ) → IsLine lines l → AreWords m l words → AreWords m l (h (l.0, words)))
@@ -193,9 +193,9 @@ memories_stay m h (l ∷ lines) (words ∷ memories) each are =
     (new.0, new.1, memories_stay m h lines memories (λ other words here. each other words (inr here)) are.2)
 
 -- a write of a word that fits leaves words that fit
-words_stay : (m : Module) (l : List ℕ × ℕ) (none : Bool) (words : List ℕ) (place value : ℕ) → AreWords m l words → value < 2 ^ l.1 → AreWords m l (cond none words (slice_set words place value))
-words_stay m l true words place value are small = are
-words_stay m l false words place value are small = (length-set words place value ∙ are.0, set_below (2 ^ l.1) words place value are.1 small)
+words_stay : (m : Module) (l : List ℕ × ℕ) (none : Bool) (words : List ℕ) (address value : ℕ) → AreWords m l words → value < 2 ^ l.1 → AreWords m l (cond none words (slice_set words address value))
+words_stay m l true words address value are small = are
+words_stay m l false words address value are small = (length-set words address value ∙ are.0, set_below (2 ^ l.1) words address value are.1 small)
 
 module _ (m : Module) (order : List ℕ) (broken : first_broken m ≡ None) (is : IsOrder m order) (kept : Kept) (of : IsOf m kept) (row : List ℕ) (inputs : AreNumbers (lines_of is_input m) row) where
   -- where each expression is computed right, the machine stores at an edge what the module does
@@ -230,7 +230,7 @@ module _ (m : Module) (order : List ℕ) (broken : first_broken m ≡ None) (is 
       step (Some (stmt.Store other v)) e =
           let s = found_stmt m broken l.0 (stmt.Store other v) e in
           rw e (subst (λ (w : ℕ). number_of m kept value v < 2 ^ w) (line_width m order broken is is_reg l here) (number_small value solution v (width_of m l.0) s.1))
-      step (Some (stmt.StoreIf condition other place v)) e = rw e below
+      step (Some (stmt.StoreIf condition other address v)) e = rw e below
 
   -- what an edge leaves in a memory fits
   memory_stays : (value : Valuation) → IsTheSolution m kept row value → (l : List ℕ × ℕ) (words : List ℕ) → IsLine (lines_of is_memory m) l → AreWords m l words → AreWords m l (words_after m kept value (l.0, words))
@@ -239,10 +239,10 @@ module _ (m : Module) (order : List ℕ) (broken : first_broken m ≡ None) (is 
       step : (o : Option Stmt) → stmt_for m l.0 ≡ o → AreWords m l (words_after m kept value (l.0, words))
       step None e = rw e are
       step (Some (stmt.Store other v)) e = rw e are
-      step (Some (stmt.StoreIf condition other place v)) e =
-          let s = found_stmt m broken l.0 (stmt.StoreIf condition other place v) e in
+      step (Some (stmt.StoreIf condition other address v)) e =
+          let s = found_stmt m broken l.0 (stmt.StoreIf condition other address v) e in
           let word = subst (λ (w : ℕ). number_of m kept value v < 2 ^ w) (line_width m order broken is is_memory l here) (number_small value solution v (width_of m l.0) s.3) in
-          rw e (words_stay m l (nat_eq (number_of m kept value condition) 0) words (number_of m kept value place) (number_of m kept value v) are word)
+          rw e (words_stay m l (nat_eq (number_of m kept value condition) 0) words (number_of m kept value address) (number_of m kept value v) are word)
 
   -- registers and memories of a module are its own after an edge too
   pub after_is_of : (value : Valuation) → IsTheSolution m kept row value → IsOf m (after_edge m kept value)

@@ -1,4 +1,4 @@
--- Equations whose places keep an order stand in order.
+-- Equations whose indexes keep an order stand in order.
 use Rattle.std.proofs.Common.{◌≡◌, ℕ, zero, suc, ◌<◌, ◌≤◌, ◌^◌, List, [], ◌∷◌, Some, refl, sym, ap, ◌∙◌, arith, inl, inr, ◌⊎◌}
 use Rattle.std.specs.Prelude.{slice_get, Contains}
 use Rattle.std.specs.List.{AllByRecursion}
@@ -14,15 +14,15 @@ use Rattle.lg_vmeaning.specs.InOrder.{IsIn, AreInOrder}
 use Rattle.lg_vresolve.proofs.TermLemmas.{reads_only}
 use Rattle.lg_vresolve.proofs.FitLemmas.{fits}
 
--- an assign stands at a place
+-- an assign stands at an index
 abbrev pub At : List Assign → ℕ → Assign → Type 0
 At assigns i a = slice_get assigns i ≡ Some a
 
--- the name is known, or an assign before this place gives it a number
+-- the name is known, or an assign before this index gives it a number
 abbrev pub IsEarlier : List (List ℕ) → List Assign → ℕ → List ℕ → Type 0
 IsEarlier known assigns i name = IsIn known name ⊎ ((j : ℕ) × (j < i) × (b : Assign) × At assigns j b × (b.name ≡ name))
 
--- what the equations of a list keep, place by place
+-- what the equations of a list keep, index by index
 pub record KeepOrder (m : Module) (known : List (List ℕ)) (assigns : List Assign) : Type 0 where
   pub reads : (i : ℕ) (a : Assign) → At assigns i a → (name : List ℕ) → Contains (names_read a.value) name → IsEarlier known assigns i name
   pub fresh : (i : ℕ) (a : Assign) → At assigns i a → IsIn known a.name → ⊥

@@ -17,7 +17,7 @@ use Rattle.lg_vmeaning.proofs.EdgeLemmas.{after_is_of, stored_is}
 
 -- the outputs among some numbers
 abbrev pub read_outputs : List ℕ → Machine → List ℕ
-read_outputs numbers machine = map (λ (place : ℕ). slice_index_or numbers place 0) machine.outputs
+read_outputs numbers machine = map (λ (index : ℕ). slice_index_or numbers index 0) machine.outputs
 
 module _ (m : Module) (order : List ℕ) (ins outs : List PortLine) (machine : Machine) (c : IsCompiled m order ins outs machine)
     (kept : Kept) (of : IsOf m kept) (row : List ℕ) (fits : AreNumbers (lines_of is_input m) row)
@@ -41,10 +41,10 @@ module _ (m : Module) (order : List ℕ) (ins outs : List PortLine) (machine : M
       (λ i. stored_by (c.machine i) (numbers_are i) kept)
       ∙ stored_is m order c.valid.rules c.order kept of row fits value (the_numbers m order kept row) (term_is m order c.valid.rules c.order kept of row fits)
 
-  pub outputs_small : All (λ (place : ℕ). slice_index_or numbers place 0 < 2 ^ 64) machine.outputs
+  pub outputs_small : All (λ (index : ℕ). slice_index_or numbers index 0 < 2 ^ 64) machine.outputs
   outputs_small =
-      subst (λ (ns : List ℕ). All (λ (place : ℕ). slice_index_or ns place 0 < 2 ^ 64) machine.outputs) (sym numbers_are)
-      (subst (λ (x : Machine). All (λ (place : ℕ). slice_index_or (the_numbers m order kept row) place 0 < 2 ^ 64) x.outputs) (sym c.machine)
+      subst (λ (ns : List ℕ). All (λ (index : ℕ). slice_index_or ns index 0 < 2 ^ 64) machine.outputs) (sym numbers_are)
+      (subst (λ (x : Machine). All (λ (index : ℕ). slice_index_or (the_numbers m order kept row) index 0 < 2 ^ 64) x.outputs) (sym c.machine)
       (machine_outputs_small m order c.valid.rules c.order kept of row fits))
 
   pub has_outputs : (outputs : List ℕ) → outputs ≡ read_outputs numbers machine → HasOutputs m kept row outputs

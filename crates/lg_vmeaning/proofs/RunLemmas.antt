@@ -18,15 +18,15 @@ use Rattle.lg_vrules.specs.declared.names.Thing.{Thing}
 use Rattle.lg_vrules.specs.Things.{range_width, things, port_thing, decl_thing, sort_of, width_of, names_of, lines_of, is_input, is_output, is_reg, is_memory, is_readable}
 use Rattle.lg_vrules.specs.Depends.{names_read}
 use Rattle.lg_vrules.specs.Order.{IsOrder}
-use Rattle.lg_vrules.specs.Places.{place_from}
+use Rattle.lg_vrules.specs.Indexes.{index_from}
 use Rattle.lg_vrules.specs.Rules.{is_among, all_differ, is_of, reads_declared, expr_width, most_bits, is_narrow, first_broken}
-use Rattle.lg_vrules.proofs.GraphLemmas.{names, place_tells}
-use Rattle.lg_vrules.proofs.IndexLemmas.{narrow_widths}
+use Rattle.lg_vrules.proofs.GraphLemmas.{names, index_tells}
+use Rattle.lg_vrules.proofs.NameIndexLemmas.{narrow_widths}
 use Rattle.lg_vrules.proofs.NameLemmas.{both}
 use Rattle.lg_vmachine.specs.Kept.{Kept}
 use Rattle.lg_vmachine.specs.Machine.{run}
 use Rattle.lg_vresolve.specs.Meaning.{Valuation, memory_words, number_of}
-use Rattle.lg_vresolve.specs.Resolved.{place_or_0}
+use Rattle.lg_vresolve.specs.Resolved.{index_or_0}
 use Rattle.lg_vmachine.specs.Terms.{term_number}
 use Rattle.lg_vmachine.specs.declared.term.Term.{Term}
 use Rattle.lg_vresolve.proofs.ReadLemmas.{reads_readable}
@@ -38,7 +38,7 @@ use Rattle.lg_vmeaning.specs.Compiled.{known, term_of, machine_of}
 use Rattle.lg_vmeaning.proofs.InOrderLemmas.{solved, given_by, TheSolution-ordered}
 use Rattle.lg_vmeaning.proofs.NameLemmas.{in_among, found_in, found_passes}
 use Rattle.lg_vmeaning.proofs.OrderLemmas.{At, IsEarlier}
-use Rattle.lg_vmeaning.proofs.ValidLemmas.{in_left, in_right, differ_both, at_place, kept_rules, of_found, found_of, found_name, to_module, declared_at, keeps, given, words_within, within_at, sources_apart, are_ordered}
+use Rattle.lg_vmeaning.proofs.ValidLemmas.{in_left, in_right, differ_both, at_index, kept_rules, of_found, found_of, found_name, to_module, declared_at, keeps, given, words_within, within_at, sources_apart, are_ordered}
 
 -- names that differ
 
@@ -52,55 +52,55 @@ all_differ_is (name ∷ names) differ = both (fresh (is_among name names) refl) 
     fresh false e = ap not e
 
 -- assigns of which no two give one name a number give numbers to names that differ
-differ_by_place : (assigns : List Assign) → ((i j : ℕ) (a b : Assign) → At assigns i a → At assigns j b → a.name ≡ b.name → i ≡ j) → AllDiffer (names assigns)
-differ_by_place [] differ = tt
-differ_by_place (a ∷ assigns) differ = (
+differ_by_index : (assigns : List Assign) → ((i j : ℕ) (a b : Assign) → At assigns i a → At assigns j b → a.name ≡ b.name → i ≡ j) → AllDiffer (names assigns)
+differ_by_index [] differ = tt
+differ_by_index (a ∷ assigns) differ = (
   λ here.
-      let b = at_place assigns a.name here in
+      let b = at_index assigns a.name here in
       let no : 0 ≡ suc b.0 = differ 0 (suc b.0) a b.1 refl b.2 (sym b.3) in
       absurd (omega (arith, no)),
-  differ_by_place assigns (λ i j b c at there same. let e : suc i ≡ suc j = differ (suc i) (suc j) b c at there same in omega (arith, e)),
+  differ_by_index assigns (λ i j b c at there same. let e : suc i ≡ suc j = differ (suc i) (suc j) b c at there same in omega (arith, e)),
 )
 
--- places of names
+-- indexes of names
 
--- a name of a list has a place in it
-placed : (n : ℕ) (names : List (List ℕ)) (name : List ℕ) → IsIn names name → (k : ℕ) × (place_from n names name ≡ Some k)
-placed n [] name here = absurd here
-placed n (other ∷ names) name here = step (bytes_eq other name) refl here (placed (n + 1) names name)
+-- a name of a list has an index in it
+indexed : (n : ℕ) (names : List (List ℕ)) (name : List ℕ) → IsIn names name → (k : ℕ) × (index_from n names name ≡ Some k)
+indexed n [] name here = absurd here
+indexed n (other ∷ names) name here = step (bytes_eq other name) refl here (indexed (n + 1) names name)
   where
-    step : (b : Bool) → bytes_eq other name ≡ b → IsIn (other ∷ names) name → (IsIn names name → (k : ℕ) × (place_from (n + 1) names name ≡ Some k))
-        → (k : ℕ) × (cond b (Some n) (place_from (n + 1) names name) ≡ Some k)
+    step : (b : Bool) → bytes_eq other name ≡ b → IsIn (other ∷ names) name → (IsIn names name → (k : ℕ) × (index_from (n + 1) names name ≡ Some k))
+        → (k : ℕ) × (cond b (Some n) (index_from (n + 1) names name) ≡ Some k)
     step true e here rest = (n, refl)
     step false e (inl same) rest = absurd (false≢true (sym e ∙ (bytes_eq-Decides other name).1 (sym same)))
     step false e (inr later) rest = rest later
 
--- a name's place stays the same where more names follow
-place_front : (n : ℕ) (names more : List (List ℕ)) (name : List ℕ) (k : ℕ) → place_from n names name ≡ Some k → place_from n (names ++ more) name ≡ Some k
-place_front n [] more name k e = absurd (cc e)
-place_front n (other ∷ names) more name k e = step (bytes_eq other name) e (place_front (n + 1) names more name k)
+-- a name's index stays the same where more names follow
+index_front : (n : ℕ) (names more : List (List ℕ)) (name : List ℕ) (k : ℕ) → index_from n names name ≡ Some k → index_from n (names ++ more) name ≡ Some k
+index_front n [] more name k e = absurd (cc e)
+index_front n (other ∷ names) more name k e = step (bytes_eq other name) e (index_front (n + 1) names more name k)
   where
-    step : (b : Bool) → cond b (Some n) (place_from (n + 1) names name) ≡ Some k → (place_from (n + 1) names name ≡ Some k → place_from (n + 1) (names ++ more) name ≡ Some k)
-        → cond b (Some n) (place_from (n + 1) (names ++ more) name) ≡ Some k
+    step : (b : Bool) → cond b (Some n) (index_from (n + 1) names name) ≡ Some k → (index_from (n + 1) names name ≡ Some k → index_from (n + 1) (names ++ more) name ≡ Some k)
+        → cond b (Some n) (index_from (n + 1) (names ++ more) name) ≡ Some k
     step true e rest = e
     step false e rest = rest e
 
--- the number of a name stands at the name's place, also where only the first of the names have numbers
-number_at : (value : Valuation) (some more all : List (List ℕ)) (name : List ℕ) → some ++ more ≡ all → IsIn some name → value name ≡ slice_index_or (map value some) (place_or_0 (place_from 0 all) name) 0
+-- the number of a name stands at the name's index, also where only the first of the names have numbers
+number_at : (value : Valuation) (some more all : List (List ℕ)) (name : List ℕ) → some ++ more ≡ all → IsIn some name → value name ≡ slice_index_or (map value some) (index_or_0 (index_from 0 all) name) 0
 number_at value some more all name e here =
-    let p = placed 0 some name here in
-    let t = place_tells 0 some name p.0 p.1 in
+    let p = indexed 0 some name here in
+    let t = index_tells 0 some name p.0 p.1 in
     let at : t.0 ≡ p.0 = omega (arith, t.1) in
     let stands : slice_get (map value some) p.0 ≡ Some (value name) = slice_get-map value some p.0 ∙ ap (option_map value) (subst (λ (j : ℕ). slice_get some j ≡ Some name) at t.2) in
-    let found : place_from 0 all name ≡ Some p.0 = ap (λ (names : List (List ℕ)). place_from 0 names name) (sym e) ∙ place_front 0 some more name p.0 p.1 in
-    let place : place_or_0 (place_from 0 all) name ≡ p.0 = ap (λ (o : Option ℕ). unwrap_or o 0) found in
-    sym (ap (λ (k : ℕ). slice_index_or (map value some) k 0) place ∙ get_or_from_slice_get (map value some) p.0 (value name) 0 stands)
+    let found : index_from 0 all name ≡ Some p.0 = ap (λ (names : List (List ℕ)). index_from 0 names name) (sym e) ∙ index_front 0 some more name p.0 p.1 in
+    let index : index_or_0 (index_from 0 all) name ≡ p.0 = ap (λ (o : Option ℕ). unwrap_or o 0) found in
+    sym (ap (λ (k : ℕ). slice_index_or (map value some) k 0) index ∙ get_or_from_slice_get (map value some) p.0 (value name) 0 stands)
 
--- equations whose terms give the numbers of their names, where what they read stands at its place, give those numbers in turn
+-- equations whose terms give the numbers of their names, where what they read stands at its index, give those numbers in turn
 run_names : (memories : List (List ℕ)) (value : Valuation) (term : Assign → Term) (all some : List (List ℕ)) (assigns : List Assign) → some ++ names assigns ≡ all
     → ((i : ℕ) (a : Assign) → At assigns i a → (name : List ℕ) → Contains (names_read a.value) name → IsEarlier some assigns i name)
     → ((i : ℕ) (a : Assign) → At assigns i a → (numbers : List ℕ)
-    → ((name : List ℕ) → Contains (names_read a.value) name → value name ≡ slice_index_or numbers (place_or_0 (place_from 0 all) name) 0) → term_number numbers memories (term a) ≡ value a.name)
+    → ((name : List ℕ) → Contains (names_read a.value) name → value name ≡ slice_index_or numbers (index_or_0 (index_from 0 all) name) 0) → term_number numbers memories (term a) ≡ value a.name)
     → run memories (map value some) (map term assigns) ≡ map value all
 run_names memories value term all some [] e reads gives = ap (map value) (sym (append-nil some) ∙ e)
 run_names memories value term all some (a ∷ assigns) e reads gives =
@@ -126,14 +126,14 @@ run_names memories value term all some (a ∷ assigns) e reads gives =
       | inr earlier ↦ from i name earlier.0 earlier.1 earlier.2 earlier.3 earlier.4
     ]
 
--- what is read back from the places of names
-read_back : (read : ℕ → ℕ) (place : List ℕ → ℕ) (value : Valuation) (names : List (List ℕ)) → ((name : List ℕ) → IsIn names name → value name ≡ read (place name)) → map read (map place names) ≡ map value names
-read_back read place value [] each = refl
-read_back read place value (name ∷ names) each = λ i. sym (each name (inl refl)) i ∷ read_back read place value names (λ other here. each other (inr here)) i
+-- what is read back from the indexes of names
+read_back : (read : ℕ → ℕ) (index : List ℕ → ℕ) (value : Valuation) (names : List (List ℕ)) → ((name : List ℕ) → IsIn names name → value name ≡ read (index name)) → map read (map index names) ≡ map value names
+read_back read index value [] each = refl
+read_back read index value (name ∷ names) each = λ i. sym (each name (inl refl)) i ∷ read_back read index value names (λ other here. each other (inr here)) i
 
-at_places : (P : ℕ → Type 0) (place : List ℕ → ℕ) (names : List (List ℕ)) → ((name : List ℕ) → IsIn names name → P (place name)) → AllByRecursion P (map place names)
-at_places P place [] each = tt
-at_places P place (name ∷ names) each = (each name (inl refl), at_places P place names (λ other here. each other (inr here)))
+at_indexes : (P : ℕ → Type 0) (index : List ℕ → ℕ) (names : List (List ℕ)) → ((name : List ℕ) → IsIn names name → P (index name)) → AllByRecursion P (map index names)
+at_indexes P index [] each = tt
+at_indexes P index (name ∷ names) each = (each name (inl refl), at_indexes P index names (λ other here. each other (inr here)))
 
 at_assign : (P : Assign → Type 0) (assigns : List Assign) (i : ℕ) (a : Assign) → AllByRecursion P assigns → At assigns i a → P a
 at_assign P assigns i a all at = subst P (get_or_from_slice_get assigns i a a at) (All-from_recursion P assigns all i a (slice_get_within assigns i a at))
@@ -173,8 +173,8 @@ module _ (m : Module) (order : List ℕ) (broken : first_broken m ≡ None) (is 
   known_differ =
       let k = keeps m order broken is in
       all_differ_is (known m order)
-      (differ_both (sources m) (names (ordered m order)) (sources_apart m order broken is) (differ_by_place (ordered m order) k.differ)
-      (λ name source there. let a = at_place (ordered m order) name there in k.fresh a.0 a.1 a.2 (subst (IsIn (sources m)) (sym a.3) source)))
+      (differ_both (sources m) (names (ordered m order)) (sources_apart m order broken is) (differ_by_index (ordered m order) k.differ)
+      (λ name source there. let a = at_index (ordered m order) name there in k.fresh a.0 a.1 a.2 (subst (IsIn (sources m)) (sym a.3) source)))
 
   -- a name that an expression may read is known
   is_known : (name : List ℕ) → is_of is_readable (sort_of m) name ≡ true → IsIn (known m order) name
@@ -183,11 +183,11 @@ module _ (m : Module) (order : List ℕ) (broken : first_broken m ≡ None) (is 
     | inr there ↦ in_right (sources m) (names (ordered m order)) name there
   ]
 
-  -- the words of a memory stand at its place
-  words_at : (kept : Kept) (name : List ℕ) → is_of is_memory (sort_of m) name ≡ true → slice_index_or kept.memories (place_or_0 (place_from 0 (names_of is_memory m)) name) [] ≡ memory_words m kept name
+  -- the words of a memory stand at its index
+  words_at : (kept : Kept) (name : List ℕ) → is_of is_memory (sort_of m) name ≡ true → slice_index_or kept.memories (index_or_0 (index_from 0 (names_of is_memory m)) name) [] ≡ memory_words m kept name
   words_at kept name memory =
       let f = found_of m order broken is is_memory name memory in
-      let p = placed 0 (names_of is_memory m) name (found_in is_memory (things m) name f.0 f.1 f.2) in
+      let p = indexed 0 (names_of is_memory m) name (found_in is_memory (things m) name f.0 f.1 f.2) in
       subst (λ (o : Option ℕ). slice_index_or kept.memories (unwrap_or o 0) [] ≡ unwrap_or (option_and_then (slice_get kept.memories) o) []) (sym p.1) (sym (unwrap_or-slice_get kept.memories p.0 []))
 
   output_readable : (name : List ℕ) → IsIn (names_of is_output m) name → is_of is_readable (sort_of m) name ≡ true
@@ -214,18 +214,18 @@ module _ (m : Module) (order : List ℕ) (broken : first_broken m ≡ None) (is 
     value_within : (name : List ℕ) → is_of is_readable (sort_of m) name ≡ true → the_value m order kept row name < 2 ^ width_of m name
     value_within name readable = within_at m order broken is (the_value m order kept row) is_the_solution.solves.within name readable
 
-    -- where what an expression reads stands at its place, its term has its number
+    -- where what an expression reads stands at its index, its term has its number
     term_over : (numbers : List ℕ) (e : Expr) (w : ℕ) → reads_declared (sort_of m) e ≡ true → expr_width (width_of m) e ≡ Some w
-        → ((name : List ℕ) → Contains (names_read e) name → the_value m order kept row name ≡ slice_index_or numbers (place_or_0 (place_from 0 (known m order)) name) 0)
+        → ((name : List ℕ) → Contains (names_read e) name → the_value m order kept row name ≡ slice_index_or numbers (index_or_0 (index_from 0 (known m order)) name) 0)
         → term_number numbers kept.memories (term_of m order e) ≡ number_of m kept (the_value m order kept row) e
     term_over numbers e w declared wide stand =
-        (resolved_is m kept (the_value m order kept row) e w numbers (place_from 0 (known m order)) (place_from 0 (names_of is_memory m))
+        (resolved_is m kept (the_value m order kept row) e w numbers (index_from 0 (known m order)) (index_from 0 (names_of is_memory m))
         (narrow_widths m (kept_rules m order broken is).narrow) (words_within m order broken is kept of) (words_at kept) declared wide
         (λ name read. value_within name (reads_readable (sort_of m) e declared name read)) stand).same
 
-    -- a readable name's number stands at its place
+    -- a readable name's number stands at its index
     number_stands : (name : List ℕ) → is_of is_readable (sort_of m) name ≡ true
-        → the_value m order kept row name ≡ slice_index_or (the_numbers m order kept row) (place_or_0 (place_from 0 (known m order)) name) 0
+        → the_value m order kept row name ≡ slice_index_or (the_numbers m order kept row) (index_or_0 (index_from 0 (known m order)) name) 0
     number_stands name readable = number_at (the_value m order kept row) (known m order) [] (known m order) name (append-nil (known m order)) (is_known name readable)
 
     -- over the numbers of the solution the term of an expression has the number of the expression
@@ -243,23 +243,23 @@ module _ (m : Module) (order : List ℕ) (broken : first_broken m ≡ None) (is 
         ap (λ (numbers : List ℕ). run kept.memories numbers (machine_of m order).equations) (sym start)
         ∙ run_names kept.memories value (λ (a : Assign). term_of m order a.value) (known m order) (sources m) (ordered m order) refl k.reads
         (λ i a at numbers stand.
-        let place = slice_index order i in
+        let index = slice_index order i in
         let there = (to_module m order broken is i a at).1 in
-        term_over numbers a.value (width_of m a.name) (declared_at m order broken is place a there) (k.width i a at) stand
-        ∙ sym (at_assign (λ (a : Assign). value a.name ≡ number_of m kept value a.value) m.assigns place a s.equations there))
+        term_over numbers a.value (width_of m a.name) (declared_at m order broken is index a there) (k.width i a at) stand
+        ∙ sym (at_assign (λ (a : Assign). value a.name ≡ number_of m kept value a.value) m.assigns index a s.equations there))
 
-    -- the numbers at the places of the outputs are theirs
-    pub outputs_are : map (λ (place : ℕ). slice_index_or (the_numbers m order kept row) place 0) (machine_of m order).outputs ≡ map (the_value m order kept row) (names_of is_output m)
+    -- the numbers at the indexes of the outputs are theirs
+    pub outputs_are : map (λ (index : ℕ). slice_index_or (the_numbers m order kept row) index 0) (machine_of m order).outputs ≡ map (the_value m order kept row) (names_of is_output m)
     outputs_are =
-        read_back (λ (place : ℕ). slice_index_or (the_numbers m order kept row) place 0) (place_or_0 (place_from 0 (known m order))) (the_value m order kept row) (names_of is_output m)
+        read_back (λ (index : ℕ). slice_index_or (the_numbers m order kept row) index 0) (index_or_0 (index_from 0 (known m order))) (the_value m order kept row) (names_of is_output m)
         (λ name here. number_stands name (output_readable name here))
 
-    -- the numbers at the places of the outputs fit 64 bits
-    pub outputs_small : All (λ (place : ℕ). slice_index_or (the_numbers m order kept row) place 0 < 2 ^ 64) (machine_of m order).outputs
+    -- the numbers at the indexes of the outputs fit 64 bits
+    pub outputs_small : All (λ (index : ℕ). slice_index_or (the_numbers m order kept row) index 0 < 2 ^ 64) (machine_of m order).outputs
     outputs_small =
-        let small = λ (place : ℕ). slice_index_or (the_numbers m order kept row) place 0 < 2 ^ 64 in
+        let small = λ (index : ℕ). slice_index_or (the_numbers m order kept row) index 0 < 2 ^ 64 in
         All-from_recursion small (machine_of m order).outputs
-        (at_places small (place_or_0 (place_from 0 (known m order))) (names_of is_output m)
+        (at_indexes small (index_or_0 (index_from 0 (known m order))) (names_of is_output m)
         (λ name here.
         let readable = output_readable name here in
         subst (λ (n : ℕ). n < 2 ^ 64) (number_stands name readable) (below_more (the_value m order kept row name) (width_of m name) 64 (value_within name readable) (output_width name here))))

@@ -1,11 +1,11 @@
--- What stands at the place of a name.
+-- What stands at the index of a name.
 use Rattle.std.proofs.Common.{◌≡◌, ℕ, suc, ◌+◌, Bool, true, false, List, [], ◌∷◌, map, Option, Some, None, refl, sym, ap, ◌∙◌, arith}
 use Rattle.std.specs.Prelude.{option_map, option_and_then, slice_get, find}
 use Rattle.std.specs.Str.{bytes_eq}
 use Rattle.std.proofs.lemmas.Slice.Eq.{bytes_eq-Decides}
-use Rattle.lg_vrules.specs.Places.{place_from}
+use Rattle.lg_vrules.specs.Indexes.{index_from}
 
--- the place of a name among names
+-- the index of a name among names
 abbrev pub spot : List (List ℕ) → List ℕ → Option ℕ
 spot [] name = None
 spot (other ∷ names) name = if_here (bytes_eq other name) (spot names name)
@@ -18,12 +18,12 @@ shifted : (n : ℕ) (o : Option ℕ) → option_map (λ (k : ℕ). n + 1 + k) o 
 shifted n None = refl
 shifted n (Some k) = let e : n + 1 + k ≡ n + suc k = omega arith in ap Some e
 
-spot_from : (n : ℕ) (names : List (List ℕ)) (name : List ℕ) → place_from n names name ≡ option_map (λ (k : ℕ). n + k) (spot names name)
+spot_from : (n : ℕ) (names : List (List ℕ)) (name : List ℕ) → index_from n names name ≡ option_map (λ (k : ℕ). n + k) (spot names name)
 spot_from n [] name = refl
 spot_from n (other ∷ names) name = step (bytes_eq other name) refl (spot_from (n + 1) names name)
   where
-    step : (b : Bool) → bytes_eq other name ≡ b → place_from (n + 1) names name ≡ option_map (λ (k : ℕ). n + 1 + k) (spot names name)
-        → place_from n (other ∷ names) name ≡ option_map (λ (k : ℕ). n + k) (spot (other ∷ names) name)
+    step : (b : Bool) → bytes_eq other name ≡ b → index_from (n + 1) names name ≡ option_map (λ (k : ℕ). n + 1 + k) (spot names name)
+        → index_from n (other ∷ names) name ≡ option_map (λ (k : ℕ). n + k) (spot (other ∷ names) name)
     step true e rest = let here : n ≡ n + 0 = omega arith in rw e (ap Some here)
     step false e rest = rw e (rest ∙ shifted n (spot names name))
 
@@ -31,11 +31,11 @@ plus_none : (o : Option ℕ) → option_map (λ (k : ℕ). 0 + k) o ≡ o
 plus_none None = refl
 plus_none (Some k) = let e : 0 + k ≡ k = omega arith in ap Some e
 
-pub spot_is : (names : List (List ℕ)) (name : List ℕ) → place_from 0 names name ≡ spot names name
+pub spot_is : (names : List (List ℕ)) (name : List ℕ) → index_from 0 names name ≡ spot names name
 spot_is names name = spot_from 0 names name ∙ plus_none (spot names name)
 
--- the first item of a name stands at the place of the name
-pub found_at : {A : Type 0} (f : A → List ℕ) (items : List A) (name : List ℕ) → option_and_then (slice_get items) (place_from 0 (map f items) name) ≡ find (λ (a : A). bytes_eq (f a) name) items
+-- the first item of a name stands at the index of the name
+pub found_at : {A : Type 0} (f : A → List ℕ) (items : List A) (name : List ℕ) → option_and_then (slice_get items) (index_from 0 (map f items) name) ≡ find (λ (a : A). bytes_eq (f a) name) items
 found_at {A = A} f items name = ap (option_and_then (slice_get items)) (spot_is (map f items) name) ∙ by items
   where
     later : {A : Type 0} (a : A) (items : List A) (o : Option ℕ) → option_and_then (slice_get (a ∷ items)) (option_map suc o) ≡ option_and_then (slice_get items) o

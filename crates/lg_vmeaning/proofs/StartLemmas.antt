@@ -20,7 +20,7 @@ use Rattle.lg_vrules.specs.declared.names.Sort.{Sort}
 use Rattle.lg_vrules.specs.declared.names.Sort.TheVariants as sort
 use Rattle.lg_vrules.specs.declared.names.Thing.{Thing}
 use Rattle.lg_vrules.specs.Things.{range_width, port_sort, port_thing, decl_thing, things, names, sort_of, width_of, is_reg, is_memory}
-use Rattle.lg_vrules.specs.Rules.{is_among, all_differ, constant_fits, constant_of, last_place, decl_fits, fill_fits, word_fits, assign_fits, stmt_fits, fills_of, words_of, stmts_of, first_broken}
+use Rattle.lg_vrules.specs.Rules.{is_among, all_differ, constant_fits, constant_of, last_address, decl_fits, fill_fits, word_fits, assign_fits, stmt_fits, fills_of, words_of, stmts_of, first_broken}
 use Rattle.lg_vrules.proofs.NameLemmas.{neither, flip, not_true}
 use Rattle.lg_vrules.proofs.RuleLemmas.{rules_kept}
 use Rattle.lg_vresolve.proofs.FitLemmas.{constant_parts}
@@ -46,10 +46,10 @@ abbrev pub AllBelow : ℕ → List ℕ → Type 0
 AllBelow most words = AllByRecursion (λ (word : ℕ). word < most) words
 
 -- words stay below a number where one more is put among them
-pub set_below : (most : ℕ) (words : List ℕ) (place value : ℕ) → AllBelow most words → value < most → AllBelow most (slice_set words place value)
-set_below most [] place value all small = tt
+pub set_below : (most : ℕ) (words : List ℕ) (address value : ℕ) → AllBelow most words → value < most → AllBelow most (slice_set words address value)
+set_below most [] address value all small = tt
 set_below most (word ∷ words) zero value all small = (small, all.1)
-set_below most (word ∷ words) (suc place) value all small = (all.0, set_below most words place value all.1 small)
+set_below most (word ∷ words) (suc address) value all small = (all.0, set_below most words address value all.1 small)
 
 -- one word, again and again
 replicate_below : (most n value : ℕ) → value < most → AllBelow most (replicate n value)
@@ -150,8 +150,8 @@ fill_below m name fit = step (find (λ (f : Fill). bytes_eq f.name name) (fills_
 word_below : (most : ℕ) (name : List ℕ) (words : List ℕ) (w : Word) → AllBelow most words → (bytes_eq w.name name ≡ true → w.value.value < most) → AllBelow most (with_word name words w)
 word_below most name words w all small = step (bytes_eq w.name name) refl
   where
-    step : (b : Bool) → bytes_eq w.name name ≡ b → AllBelow most (cond b (slice_set words w.place w.value.value) words)
-    step true e = set_below most words w.place w.value.value all (small e)
+    step : (b : Bool) → bytes_eq w.name name ≡ b → AllBelow most (cond b (slice_set words w.address w.value.value) words)
+    step true e = set_below most words w.address w.value.value all (small e)
     step false e = all
 
 -- and so do all lines of the init
@@ -160,7 +160,7 @@ words_below : (sort : List ℕ → Option Sort) (width : List ℕ → ℕ) (name
 words_below sort width name [] words fit all = all
 words_below sort width name (w ∷ lines) words fit all =
     let parts = and_parts (word_fits sort width w) (list_all (word_fits sort width) lines) fit in
-    let constant = (and_parts (nat_le w.place (last_place (sort w.name))) (constant_of width w.name w.value) parts.0).1 in
+    let constant = (and_parts (nat_le w.address (last_address (sort w.name))) (constant_of width w.name w.value) parts.0).1 in
     words_below sort width name lines (with_word name words w) parts.1
     (word_below (2 ^ width name) name words w all
     (λ same. subst (λ (n : List ℕ). w.value.value < 2 ^ width n) ((bytes_eq-Decides w.name name).0 same) (value_fits width w.name w.value constant)))
@@ -170,11 +170,11 @@ words_count : (name : List ℕ) (lines : List Word) (words : List ℕ) → lengt
 words_count name [] words = refl
 words_count name (w ∷ lines) words = words_count name lines (with_word name words w) ∙ step (bytes_eq w.name name)
   where
-    step : (b : Bool) → length (cond b (slice_set words w.place w.value.value) words) ≡ length words
-    step true = length-set words w.place w.value.value
+    step : (b : Bool) → length (cond b (slice_set words w.address w.value.value) words) ≡ length words
+    step true = length-set words w.address w.value.value
     step false = refl
 
--- the words of memories at the start fit, and each place has one
+-- the words of memories at the start fit, and each address has one
 memories_start : (m : Module) (decls : List Decl) → AreFound (things m) (map decl_thing decls) → PartsFit m
     → AreMemories m (lines_in is_memory (map decl_thing decls)) (filter_map (start_memory m) decls)
 memories_start m [] stand fit = tt
@@ -182,11 +182,11 @@ memories_start m (decl.Wire range name ∷ decls) stand fit = memories_start m d
 memories_start m (decl.Reg range name value ∷ decls) stand fit = memories_start m decls stand.1 fit
 memories_start m (decl.Memory range name last ∷ decls) stand fit =
     let width : width_of m name ≡ range_width range = ap (λ (o : Option Thing). unwrap_or (option_map (λ (t : Thing). range_width t.high) o) 0) stand.0 in
-    let places : last_place (sort_of m name) ≡ last = ap (λ (o : Option Thing). last_place (option_map (λ (t : Thing). t.sort) o)) stand.0 in
+    let addresses : last_address (sort_of m name) ≡ last = ap (λ (o : Option Thing). last_address (option_map (λ (t : Thing). t.sort) o)) stand.0 in
     let number = filled_with m name in
     let below = words_below (sort_of m) (width_of m) name (words_of m) (replicate (last + 1) number) fit.words
     (replicate_below (2 ^ width_of m name) (last + 1) number (fill_below m name fit.fills)) in (
-      words_count name (words_of m) (replicate (last + 1) number) ∙ (length-replicate (last + 1) number ∙ ap (λ (n : ℕ). n + 1) (sym places)),
+      words_count name (words_of m) (replicate (last + 1) number) ∙ (length-replicate (last + 1) number ∙ ap (λ (n : ℕ). n + 1) (sym addresses)),
       subst (λ (w : ℕ). AllBelow (2 ^ w) (fold (with_word name) (replicate (last + 1) number) (words_of m))) width below,
       memories_start m decls stand.1 fit,
     )

@@ -1,4 +1,4 @@
--- The assigns of a valid module, taken in an order of their places, are equations in order.
+-- The assigns of a valid module, taken in an order of their indexes, are equations in order.
 use Rattle.std.proofs.Common.{◌≡◌, ℕ, zero, suc, ◌<◌, ◌^◌, nat_eq, Bool, true, false, cond, ◌&&◌, ◌||◌, List, [], ◌∷◌, ◌++◌, length, map, Option, Some, None, refl, sym, ap, subst, ◌∙◌, arith, rules, inl, inr, ◌⊎◌}
 use Rattle.std.specs.Prelude.{not, option_map, option_and_then, unwrap_or, slice_get, slice_index, filter_map, Contains, ◌↔◌, is_some}
 use Rattle.std.specs.List.{AllByRecursion, list_all}
@@ -13,10 +13,10 @@ use Rattle.lg_vrules.specs.declared.names.Thing.{Thing}
 use Rattle.lg_vrules.specs.Things.{range_width, things, port_thing, names, sort_of, width_of, names_of, lines_of, is_input, is_reg, is_memory, is_assignable, is_readable}
 use Rattle.lg_vrules.specs.Depends.{names_read}
 use Rattle.lg_vrules.specs.Order.{IsOrder}
-use Rattle.lg_vrules.specs.Places.{place_from}
+use Rattle.lg_vrules.specs.Indexes.{index_from}
 use Rattle.lg_vrules.specs.Rules.{is_among, all_differ, is_named, is_of, is_no_clock, is_target, assign_uses, reads_declared, expr_width, is_width, assign_fits, decl_fits, fill_fits, word_fits, fills_of, words_of, assigned, has_each, first_broken}
-use Rattle.lg_vrules.proofs.GraphLemmas.{assign_at, place_tells, same_place}
-use Rattle.lg_vrules.proofs.IndexLemmas.{narrow_widths}
+use Rattle.lg_vrules.proofs.GraphLemmas.{assign_at, index_tells, same_index}
+use Rattle.lg_vrules.proofs.NameIndexLemmas.{narrow_widths}
 use Rattle.lg_vrules.proofs.RuleLemmas.{KeepsRules, rules_kept, assigned_differ}
 use Rattle.lg_vmachine.specs.Kept.{Kept}
 use Rattle.lg_vresolve.specs.Meaning.{Valuation, memory_words}
@@ -53,10 +53,10 @@ differ_both (x ∷ xs) ys dx dy apart = (
   differ_both xs ys dx.1 dy (λ name left right. apart name (inr left) right),
 )
 
-pub at_place : (assigns : List Assign) (name : List ℕ) → IsIn (map (λ (a : Assign). a.name) assigns) name → (at : ℕ) × (a : Assign) × At assigns at a × (a.name ≡ name)
-at_place [] name here = absurd here
-at_place (a ∷ assigns) name (inl e) = (0, a, refl, sym e)
-at_place (a ∷ assigns) name (inr here) = let r = at_place assigns name here in (suc r.0, r.1, r.2, r.3)
+pub at_index : (assigns : List Assign) (name : List ℕ) → IsIn (map (λ (a : Assign). a.name) assigns) name → (at : ℕ) × (a : Assign) × At assigns at a × (a.name ≡ name)
+at_index [] name here = absurd here
+at_index (a ∷ assigns) name (inl e) = (0, a, refl, sym e)
+at_index (a ∷ assigns) name (inr here) = let r = at_index assigns name here in (suc r.0, r.1, r.2, r.3)
 
 at_name : (assigns : List Assign) (i : ℕ) (a : Assign) → At assigns i a → IsIn (map (λ (a : Assign). a.name) assigns) a.name
 at_name [] i a at = absurd (cc at)
@@ -69,14 +69,14 @@ to_contains assigns i a at = (i, slice_get_within assigns i a at, get_or_from_sl
 from_contains : (assigns : List Assign) (a : Assign) → Contains assigns a → (i : ℕ) × At assigns i a
 from_contains assigns a here = (here.0, slice_get-get_or assigns here.0 a here.1 ∙ ap Some here.2)
 
--- the assigns at some places, each of which is there
+-- the assigns at some indexes, each of which is there
 
 ordered_at : (assigns : List Assign) (order : List ℕ) → ((i : ℕ) → i < length order → slice_index order i < length assigns) → (i : ℕ) → i < length order
     → slice_get (filter_map (slice_get assigns) order) i ≡ slice_get assigns (slice_index order i)
-ordered_at assigns [] places i lt = absurd (omega (arith, lt))
-ordered_at assigns (at ∷ order) places i lt =
-    let a = assign_at assigns at (places 0 (omega arith)) in
-    step a.0 a.1 i lt (ordered_at assigns order (λ k l. places (suc k) (omega (arith, l))))
+ordered_at assigns [] indexes i lt = absurd (omega (arith, lt))
+ordered_at assigns (at ∷ order) indexes i lt =
+    let a = assign_at assigns at (indexes 0 (omega arith)) in
+    step a.0 a.1 i lt (ordered_at assigns order (λ k l. indexes (suc k) (omega (arith, l))))
   where
     step : (a : Assign) → slice_get assigns at ≡ Some a → (i : ℕ) → i < length (at ∷ order) → ((i : ℕ) → i < length order → slice_get (filter_map (slice_get assigns) order) i ≡ slice_get assigns (slice_index order i))
         → slice_get (filter_map (slice_get assigns) (at ∷ order)) i ≡ slice_get assigns (slice_index (at ∷ order) i)
@@ -84,10 +84,10 @@ ordered_at assigns (at ∷ order) places i lt =
     step a e (suc i) lt rest = rw e (rest i (omega (arith, lt)))
 
 ordered_count : (assigns : List Assign) (order : List ℕ) → ((i : ℕ) → i < length order → slice_index order i < length assigns) → length (filter_map (slice_get assigns) order) ≡ length order
-ordered_count assigns [] places = refl
-ordered_count assigns (at ∷ order) places =
-    let a = assign_at assigns at (places 0 (omega arith)) in
-    let rest = ordered_count assigns order (λ k l. places (suc k) (omega (arith, l))) in
+ordered_count assigns [] indexes = refl
+ordered_count assigns (at ∷ order) indexes =
+    let a = assign_at assigns at (indexes 0 (omega arith)) in
+    let rest = ordered_count assigns order (λ k l. indexes (suc k) (omega (arith, l))) in
     rw a.1 (omega (arith, rest))
 
 -- sorts
@@ -194,11 +194,11 @@ module _ (m : Module) (order : List ℕ) (broken : first_broken m ≡ None) (is 
 
   pub to_module : (i : ℕ) (a : Assign) → At (ordered m order) i a → (i < length order) × At m.assigns (slice_index order i) a
   to_module i a at =
-      let lt : i < length order = subst (λ (n : ℕ). i < n) (ordered_count m.assigns order is.places) (slice_get_within (ordered m order) i a at) in
-      (lt, sym (ordered_at m.assigns order is.places i lt) ∙ at)
+      let lt : i < length order = subst (λ (n : ℕ). i < n) (ordered_count m.assigns order is.indexes) (slice_get_within (ordered m order) i a at) in
+      (lt, sym (ordered_at m.assigns order is.indexes i lt) ∙ at)
 
-  from_place : (bound at : ℕ) (a : Assign) → At m.assigns at a → (before : ℕ) → before < length order → slice_index order before ≡ at → At (ordered m order) before a
-  from_place bound at a stands before lt e = ordered_at m.assigns order is.places before lt ∙ (ap (slice_get m.assigns) e ∙ stands)
+  from_index : (bound at : ℕ) (a : Assign) → At m.assigns at a → (before : ℕ) → before < length order → slice_index order before ≡ at → At (ordered m order) before a
+  from_index bound at a stands before lt e = ordered_at m.assigns order is.indexes before lt ∙ (ap (slice_get m.assigns) e ∙ stands)
 
   -- an assign's expression reads what is declared
   pub declared_at : (at : ℕ) (a : Assign) → At m.assigns at a → reads_declared (sort_of m) a.value ≡ true
@@ -209,14 +209,14 @@ module _ (m : Module) (order : List ℕ) (broken : first_broken m ≡ None) (is 
   pub keeps : KeepOrder m (sources m) (ordered m order)
   keeps = record {
     reads = λ i a at name here.
-        let place = to_module i a at in
-        let reads = declared_at (slice_index order i) a place.1 in
+        let index = to_module i a at in
+        let reads = declared_at (slice_index order i) a index.1 in
         elim (given_kind name (reads_readable (sort_of m) a.value reads name here)) [
           | inl known ↦ inl known
           | inr given ↦
-              let b = at_place m.assigns name given in
-              let before = is.after i b.0 a b.1 place.0 place.1 b.2 (subst (Contains (names_read a.value)) (sym b.3) here) in
-              inr (before.0, before.1, b.1, from_place i b.0 b.1 b.2 before.0 (omega (arith, before.1, place.0)) before.2, b.3)
+              let b = at_index m.assigns name given in
+              let before = is.after i b.0 a b.1 index.0 index.1 b.2 (subst (Contains (names_read a.value)) (sym b.3) here) in
+              inr (before.0, before.1, b.1, from_index i b.0 b.1 b.2 before.0 (omega (arith, before.1, index.0)) before.2, b.3)
         ];
     fresh = λ i a at here.
         let assignable = assignable_at (slice_index order i) a (to_module i a at).1 in
@@ -227,7 +227,7 @@ module _ (m : Module) (order : List ℕ) (broken : first_broken m ≡ None) (is 
     differ = λ i j a b at there same.
         let p = to_module i a at in
         let q = to_module j b there in
-        is.once i j p.0 q.0 (same_place m (assigned_differ m broken) (slice_index order i) (slice_index order j) a b p.1 q.1 same).0;
+        is.once i j p.0 q.0 (same_index m (assigned_differ m broken) (slice_index order i) (slice_index order j) a b p.1 q.1 same).0;
     width = λ i a at. width_at (slice_index order i) a (to_module i a at).1;
   }
     where
@@ -249,7 +249,7 @@ module _ (m : Module) (order : List ℕ) (broken : first_broken m ≡ None) (is 
     λ here.
         let at = from_contains m.assigns a here in
         let before = is.each at.0 (slice_get_within m.assigns at.0 a at.1) in
-        to_contains (ordered m order) before.0 a (from_place at.0 at.0 a at.1 before.0 before.1 before.2),
+        to_contains (ordered m order) before.0 a (from_index at.0 at.0 a at.1 before.0 before.1 before.2),
     λ here.
         let at = from_contains (ordered m order) a here in
         to_contains m.assigns (slice_index order at.0) a (to_module at.0 a at.1).1,
@@ -259,9 +259,9 @@ module _ (m : Module) (order : List ℕ) (broken : first_broken m ≡ None) (is 
   given name e = elim (given_kind name e) [
     | inl known ↦ inl known
     | inr there ↦
-        let b = at_place m.assigns name there in
+        let b = at_index m.assigns name there in
         let before = is.each b.0 (slice_get_within m.assigns b.0 b.1 b.2) in
-        inr (subst (IsIn (map (λ (a : Assign). a.name) (ordered m order))) b.3 (at_name (ordered m order) before.0 b.1 (from_place b.0 b.0 b.1 b.2 before.0 before.1 before.2)))
+        inr (subst (IsIn (map (λ (a : Assign). a.name) (ordered m order))) b.3 (at_name (ordered m order) before.0 b.1 (from_index b.0 b.0 b.1 b.2 before.0 before.1 before.2)))
   ]
 
   pub line_width : (is : Sort → Bool) (l : List ℕ × ℕ) → IsLine (lines_of is m) l → width_of m l.0 ≡ l.1
@@ -279,12 +279,12 @@ module _ (m : Module) (order : List ℕ) (broken : first_broken m ≡ None) (is 
       subst (λ (n : List ℕ). value n < 2 ^ width_of m n) l.2 (subst (λ (w : ℕ). value l.0.0 < 2 ^ w) (sym (line_width is_readable l.0 l.1)) below)
 
   pub words_within : (kept : Kept) → IsOf m kept → (name : List ℕ) → AllByRecursion (λ (word : ℕ). word < 2 ^ width_of m name) (memory_words m kept name)
-  words_within kept of name = step (place_from 0 (names_of is_memory m) name) refl
+  words_within kept of name = step (index_from 0 (names_of is_memory m) name) refl
     where
-      step : (o : Option ℕ) → place_from 0 (names_of is_memory m) name ≡ o → AllByRecursion (λ (word : ℕ). word < 2 ^ width_of m name) (unwrap_or (option_and_then (slice_get kept.memories) o) [])
+      step : (o : Option ℕ) → index_from 0 (names_of is_memory m) name ≡ o → AllByRecursion (λ (word : ℕ). word < 2 ^ width_of m name) (unwrap_or (option_and_then (slice_get kept.memories) o) [])
       step None e = tt
       step (Some k) e =
-          let t = place_tells 0 (names_of is_memory m) name k e in
+          let t = index_tells 0 (names_of is_memory m) name k e in
           let at : t.0 ≡ k = omega (arith, t.1) in
           memory_within m (lines_of is_memory m) kept.memories of.memories (line_width is_memory) k name (subst (λ (j : ℕ). slice_get (names_of is_memory m) j ≡ Some name) at t.2)
 
@@ -293,7 +293,7 @@ module _ (m : Module) (order : List ℕ) (broken : first_broken m ≡ None) (is 
   sources_apart = differ_both (names_of is_input m) (names_of is_reg m) (differ_in is_input (things m) names_differ) (differ_in is_reg (things m) names_differ)
       (λ name input register. let f = found_name is_reg name register in not_both is_input is_reg input_reg name input (of_found is_reg name f.0 f.1 ∙ f.2))
 
-  -- a valid module's assigns, in such an order of their places, are its equations in order
+  -- a valid module's assigns, in such an order of their indexes, are its equations in order
   pub are_ordered : (kept : Kept) → IsOf m kept → AreOrdered m kept (ordered m order)
   are_ordered kept of = record {
     sources_differ = sources_apart;

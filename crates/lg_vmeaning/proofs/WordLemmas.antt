@@ -13,10 +13,10 @@ use Rattle.lg_vtree.specs.declared.module.Decl.TheVariants as decl
 use Rattle.lg_vtree.specs.declared.module.Fill.{Fill}
 use Rattle.lg_vtree.specs.declared.module.Word.{Word}
 use Rattle.lg_vtree.specs.declared.module.Module.{Module}
-use Rattle.lg_vrules.specs.declared.places.Places.{Places}
+use Rattle.lg_vrules.specs.declared.indexes.Indexes.{Indexes}
 use Rattle.lg_vrules.specs.Rules.{is_among, all_differ, words_of, fills_of, filled, decl_words, decl_is_whole, are_stored_once, are_filled_once, first_broken}
 use Rattle.lg_vrules.specs.Things.{decl_thing, things, names, names_of, sort_of, is_memory}
-use Rattle.lg_vrules.specs.Places.{place_under, KnowsPlaces}
+use Rattle.lg_vrules.specs.Indexes.{index_under, KnowsIndexes}
 use Rattle.lg_vrules.proofs.NameLemmas.{not_true}
 use Rattle.lg_vrules.proofs.RuleLemmas.{rules_kept}
 use Rattle.lg_vmachine.specs.Machine.{put_word}
@@ -41,10 +41,10 @@ its_words all = map (λ (p : Named). p.1) all
 abbrev after : Word → Named → Named
 after w p = (p.0, with_word p.0 p.1 w)
 
--- memories after a word at the place of one of them
+-- memories after a word at the index of one of them
 abbrev put : Option ℕ → Word → List (List ℕ) → List (List ℕ)
 put None w memories = memories
-put (Some k) w memories = put_word memories k w.place w.value.value
+put (Some k) w memories = put_word memories k w.address w.value.value
 
 put_later : (o : Option ℕ) (w : Word) (words : List ℕ) (memories : List (List ℕ)) → put (option_map suc o) w (words ∷ memories) ≡ words ∷ put o w memories
 put_later None w words memories = refl
@@ -54,11 +54,11 @@ put_later (Some k) w words memories = refl
 untouched : (w : Word) (name : List ℕ) (words : List ℕ) → bytes_eq name w.name ≡ false → with_word name words w ≡ words
 untouched w name words apart = step (bytes_eq w.name name) refl
   where
-    step : (b : Bool) → bytes_eq w.name name ≡ b → cond b (slice_set words w.place w.value.value) words ≡ words
+    step : (b : Bool) → bytes_eq w.name name ≡ b → cond b (slice_set words w.address w.value.value) words ≡ words
     step false e = refl
     step true e = absurd (false≢true (sym apart ∙ same_names w.name name e))
 
-touched : (w : Word) (name : List ℕ) (words : List ℕ) → bytes_eq name w.name ≡ true → with_word name words w ≡ slice_set words w.place w.value.value
+touched : (w : Word) (name : List ℕ) (words : List ℕ) → bytes_eq name w.name ≡ true → with_word name words w ≡ slice_set words w.address w.value.value
 touched w name words same = let e : bytes_eq w.name name ≡ true = same_names name w.name same in rw e refl
 
 none_touched : (w : Word) (all : List Named) → is_among w.name (its_names all) ≡ false → its_words (map (after w) all) ≡ its_words all
@@ -85,7 +85,7 @@ word_put (p ∷ all) w differ =
     step true e fresh rest =
         let name : p.0 ≡ w.name = (bytes_eq-Decides p.0 w.name).0 e in
         let others : its_words (map (after w) all) ≡ its_words all = none_touched w all (ap (λ n. is_among n (its_names all)) (sym name) ∙ fresh) in
-        let here : with_word p.0 p.1 w ≡ slice_set p.1 w.place w.value.value = touched w p.0 p.1 e in
+        let here : with_word p.0 p.1 w ≡ slice_set p.1 w.address w.value.value = touched w p.0 p.1 e in
         rw e (λ i. sym here i ∷ sym others i)
     step false e fresh rest =
         let here : with_word p.0 p.1 w ≡ p.1 = untouched w p.0 p.1 e in
@@ -106,20 +106,20 @@ all_untouched : (all : List Named) → its_words all ≡ its_words (map (after_a
 all_untouched [] = refl
 all_untouched (p ∷ all) = ap (λ more. p.1 ∷ more) (all_untouched all)
 
-put_by : (places : Places) (names : List (List ℕ)) (memories : List (List ℕ)) (w : Word) → KnowsPlaces names places → with_word_by places memories w ≡ put (spot names w.name) w memories
-put_by places names memories w knows = step (place_under places w.name) refl ∙ ap (λ o. put o w memories) (knows.known w.name ∙ spot_is names w.name)
+put_by : (indexes : Indexes) (names : List (List ℕ)) (memories : List (List ℕ)) (w : Word) → KnowsIndexes names indexes → with_word_by indexes memories w ≡ put (spot names w.name) w memories
+put_by indexes names memories w knows = step (index_under indexes w.name) refl ∙ ap (λ o. put o w memories) (knows.known w.name ∙ spot_is names w.name)
   where
-    step : (o : Option ℕ) → place_under places w.name ≡ o → with_word_by places memories w ≡ put (place_under places w.name) w memories
+    step : (o : Option ℕ) → index_under indexes w.name ≡ o → with_word_by indexes memories w ≡ put (index_under indexes w.name) w memories
     step None e = rw e refl
     step (Some k) e = rw e refl
 
-words_put : (places : Places) (all : List Named) (words : List Word) → KnowsPlaces (its_names all) places → all_differ (its_names all) ≡ true
-    → fold (with_word_by places) (its_words all) words ≡ its_words (map (after_all words) all)
-words_put places all [] knows differ = all_untouched all
-words_put places all (w ∷ words) knows differ =
+words_put : (indexes : Indexes) (all : List Named) (words : List Word) → KnowsIndexes (its_names all) indexes → all_differ (its_names all) ≡ true
+    → fold (with_word_by indexes) (its_words all) words ≡ its_words (map (after_all words) all)
+words_put indexes all [] knows differ = all_untouched all
+words_put indexes all (w ∷ words) knows differ =
     let names : its_names all ≡ its_names (map (after w) all) = sym (names_stay w all) in
-    ap (λ memories. fold (with_word_by places) memories words) (put_by places (its_names all) (its_words all) w knows ∙ word_put all w differ)
-    ∙ (words_put places (map (after w) all) words (subst (λ n. KnowsPlaces n places) names knows) (ap all_differ (sym names) ∙ differ)
+    ap (λ memories. fold (with_word_by indexes) memories words) (put_by indexes (its_names all) (its_words all) w knows ∙ word_put all w differ)
+    ∙ (words_put indexes (map (after w) all) words (subst (λ n. KnowsIndexes n indexes) names knows) (ap all_differ (sym names) ∙ differ)
     ∙ together w words all)
 
 -- the memories of declarations, filled
@@ -147,17 +147,17 @@ named_names m (decl.Reg range name start ∷ decls) = named_names m decls
 named_names m (decl.Memory range name last ∷ decls) = ap (λ more. name ∷ more) (named_names m decls)
 
 -- filled memories with the words of the init are the memories at the start
-pub start_memories : (m : Module) (places : Places) → KnowsPlaces (names_of is_memory m) places → all_differ (names_of is_memory m) ≡ true
-    → fold (with_word_by places) (filter_map (filled_memory m) m.decls) (words_of m) ≡ filter_map (start_memory m) m.decls
-start_memories m places knows differ =
+pub start_memories : (m : Module) (indexes : Indexes) → KnowsIndexes (names_of is_memory m) indexes → all_differ (names_of is_memory m) ≡ true
+    → fold (with_word_by indexes) (filter_map (filled_memory m) m.decls) (words_of m) ≡ filter_map (start_memory m) m.decls
+start_memories m indexes knows differ =
     let named = filter_map (filled_named m) m.decls in
     let names : names_of is_memory m ≡ its_names named = ap (map first_of_line) (kept_lines storage.Memory m) ∙ sym (named_names m m.decls) in
-    ap (λ memories. fold (with_word_by places) memories (words_of m)) (named_words m m.decls)
-    ∙ (words_put places named (words_of m) (subst (λ n. KnowsPlaces n places) names knows) (ap all_differ (sym names) ∙ differ) ∙ named_start m m.decls)
+    ap (λ memories. fold (with_word_by indexes) memories (words_of m)) (named_words m m.decls)
+    ∙ (words_put indexes named (words_of m) (subst (λ n. KnowsIndexes n indexes) names knows) (ap all_differ (sym names) ∙ differ) ∙ named_start m m.decls)
 
 -- the number that fills the memory of a name
-pub filled_is : (m : Module) (places : Places) (name : List ℕ) → KnowsPlaces (filled m) places → filled_by places (fills_of m) name ≡ filled_with m name
-filled_is m places name knows =
+pub filled_is : (m : Module) (indexes : Indexes) (name : List ℕ) → KnowsIndexes (filled m) indexes → filled_by indexes (fills_of m) name ≡ filled_with m name
+filled_is m indexes name knows =
     ap (λ (o : Option Fill). unwrap_or (option_map (λ (f : Fill). f.value.value) o) 0)
     (ap (λ (o : Option ℕ). option_and_then (slice_get (fills_of m)) o) (knows.known name) ∙ found_at (λ (f : Fill). f.name) (fills_of m) name)
 
@@ -179,7 +179,7 @@ pub words_few : (m : Module) (decls : List Decl) (i : ℕ) (d : Decl) {range : O
 words_few m decls i d {last = last} broken same lt here is =
     let all = list_all decl_is_whole m.decls in
     let most = nat_le (sum_by decl_words m.decls) 1048576 in
-    let sizes = and_parts all most (and_parts (all && most) _ (rules_kept m broken).indexed).0 in
+    let sizes = and_parts all most (and_parts (all && most) _ (rules_kept m broken).addressed).0 in
     let sum : sum_by decl_words m.decls ≤ 1048576 = (let test = sizes.1 in search rules) in
     let item : decl_words (get_or decls i d) ≤ sum_by decl_words decls = get_or-le-sum_by decl_words decls i d lt in
     let words : decl_words (get_or decls i d) ≡ last + 1 = ap decl_words (sym here ∙ is) in

@@ -1,4 +1,4 @@
--- What is run for a module: its equations and stores over places. No contract of the crate's surface speaks of this.
+-- What is run for a module: its equations and stores over indexes. No contract of the crate's surface speaks of this.
 use Rattle.std.specs.Prelude.{◌≡◌, ℕ, List, ◌++◌, map, Option, Some, None}
 use Rattle.lg_vtree.specs.declared.expr.Expr.{Expr}
 use Rattle.lg_vtree.specs.declared.module.Assign.{Assign}
@@ -7,10 +7,10 @@ use Rattle.lg_vtree.specs.declared.module.Stmt.TheVariants as stmt
 use Rattle.lg_vtree.specs.declared.module.Module.{Module}
 use Rattle.lg_vrules.specs.Order.{IsOrder}
 use Rattle.lg_vrules.specs.Things.{width_of, names_of, is_input, is_output, is_reg, is_memory}
-use Rattle.lg_vrules.specs.Places.{place_from}
+use Rattle.lg_vrules.specs.Indexes.{index_from}
 use Rattle.lg_vmachine.specs.Kept.{Kept}
 use Rattle.lg_vresolve.specs.Meaning.{Valuation}
-use Rattle.lg_vresolve.specs.Resolved.{resolved, place_or_0}
+use Rattle.lg_vresolve.specs.Resolved.{resolved, index_or_0}
 use Rattle.lg_vmachine.specs.declared.term.Term.{Term}
 use Rattle.lg_vmachine.specs.declared.machine.Machine.{Machine}
 use Rattle.lg_vmachine.specs.declared.machine.Write.{Write}
@@ -26,7 +26,7 @@ abbrev pub known : Module → List ℕ → List (List ℕ)
 known m order = sources m ++ map (λ (a : Assign). a.name) (ordered m order)
 
 abbrev pub term_of : Module → List ℕ → Expr → Term
-term_of m order e = (resolved (width_of m) (place_from 0 (known m order)) (place_from 0 (names_of is_memory m)) e).term
+term_of m order e = (resolved (width_of m) (index_from 0 (known m order)) (index_from 0 (names_of is_memory m)) e).term
 
 -- what an edge stores into a register, by its statement
 abbrev pub next_by : (Expr → Term) → Option Stmt → Option Term
@@ -35,7 +35,7 @@ next_by term _ = None
 
 -- what an edge stores into a memory, by its statement
 abbrev pub write_by : (Expr → Term) → Option Stmt → Option Write
-write_by term (Some (stmt.StoreIf condition name place e)) = Some (record { condition = term condition; place = term place; value = term e })
+write_by term (Some (stmt.StoreIf condition name address e)) = Some (record { condition = term condition; address = term address; value = term e })
 write_by term _ = None
 
 abbrev pub next_of : Module → List ℕ → Option Stmt → Option Term
@@ -48,18 +48,18 @@ write_of m order s = write_by (term_of m order) s
 abbrev pub machine_of : Module → List ℕ → Machine
 machine_of m order = record {
   equations = map (λ (a : Assign). term_of m order a.value) (ordered m order);
-  outputs = map (place_or_0 (place_from 0 (known m order))) (names_of is_output m);
+  outputs = map (index_or_0 (index_from 0 (known m order))) (names_of is_output m);
   registers = map (λ (name : List ℕ). next_of m order (stmt_for m name)) (names_of is_reg m);
   memories = map (λ (name : List ℕ). write_of m order (stmt_for m name)) (names_of is_memory m);
 }
 
 -- a valid module with all that is made ready for its rows
-pub record IsCompiled (m : Module) (places : List ℕ) (ins outs : List PortLine) (ready : Machine) : Type 0 where
+pub record IsCompiled (m : Module) (indexes : List ℕ) (ins outs : List PortLine) (ready : Machine) : Type 0 where
   pub valid : IsValid m
-  pub order : IsOrder m places
+  pub order : IsOrder m indexes
   pub inputs : ins ≡ port_lines is_input m
   pub outputs : outs ≡ port_lines is_output m
-  pub machine : ready ≡ machine_of m places
+  pub machine : ready ≡ machine_of m indexes
 
 -- a row: its outputs, and what is kept after its edge
 pub record IsStep (m : Module) (kept : Kept) (row outputs : List ℕ) (after : Kept) : Type 0 where

@@ -57,6 +57,6 @@ pub record AreOrdered (m : Module) (kept : Kept) (order : List Assign) : Type 0 
   -- each name that has a number is known or given one, and its width is that of its line
   pub all_given : AllByRecursion (λ (l : List ℕ × ℕ). IsGiven (sources m) order l.0 × (width_of m l.0 ≡ l.1)) (lines_of is_readable m)
 
--- the assigns at these places
+-- the assigns at these indexes
 abbrev pub ordered : Module → List ℕ → List Assign
 ordered m order = filter_map (slice_get m.assigns) order

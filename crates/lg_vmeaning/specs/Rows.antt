@@ -22,7 +22,7 @@ filled_with m name = unwrap_or (option_map (λ (f : Fill). f.value.value) (find 
 
 -- the words of the memory of this name after a line of the init
 abbrev pub with_word : List ℕ → List ℕ → Word → List ℕ
-with_word name words w = if bytes_eq w.name name then slice_set words w.place w.value.value else words
+with_word name words w = if bytes_eq w.name name then slice_set words w.address w.value.value else words
 
 -- a memory at the start: filled, and then the words of the init in turn
 abbrev pub start_memory : Module → Decl → Option (List ℕ)
@@ -56,8 +56,8 @@ abbrev pub words_after : Module → Kept → Valuation → List ℕ × List ℕ 
 words_after m kept value r = stored (stmt_for m r.0)
   where
     stored : Option Stmt → List ℕ
-    stored (Some (stmt.StoreIf condition name place e)) =
-        if number_of m kept value condition == 0 then r.1 else slice_set r.1 (number_of m kept value place) (number_of m kept value e)
+    stored (Some (stmt.StoreIf condition name address e)) =
+        if number_of m kept value condition == 0 then r.1 else slice_set r.1 (number_of m kept value address) (number_of m kept value e)
     stored _ = r.1
 
 -- registers and memories after an edge: all that is stored is computed in one solution

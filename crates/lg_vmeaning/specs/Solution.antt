@@ -4,7 +4,7 @@ use Rattle.std.specs.Prelude.{◌≡◌, ℕ, ◌+◌, ◌^◌, ◌<◌, List, [
 use Rattle.std.specs.List.{AllByRecursion}
 use Rattle.lg_vtree.specs.declared.module.Assign.{Assign}
 use Rattle.lg_vtree.specs.declared.module.Module.{Module}
-use Rattle.lg_vrules.specs.Rules.{last_place}
+use Rattle.lg_vrules.specs.Rules.{last_address}
 use Rattle.lg_vrules.specs.Things.{sort_of, lines_of, names_of, is_input, is_output, is_reg, is_memory, is_readable}
 use Rattle.lg_vmachine.specs.Kept.{Kept}
 use Rattle.lg_vresolve.specs.Meaning.{Valuation, number_of}
@@ -16,11 +16,11 @@ AreNumbers (l ∷ lines) (n ∷ numbers) = (n < 2 ^ l.1) × AreNumbers lines num
 AreNumbers [] (n ∷ numbers) = ⊥
 AreNumbers (l ∷ lines) [] = ⊥
 
--- words for each of these memories: one for each place, each of which its width can hold
+-- words for each of these memories: one for each address, each of which its width can hold
 abbrev pub AreMemories : Module → List (List ℕ × ℕ) → List (List ℕ) → Type 0
 AreMemories m [] [] = Unit {0}
 AreMemories m (l ∷ lines) (words ∷ memories) =
-    (length words ≡ last_place (sort_of m l.0) + 1) × AllByRecursion (λ (word : ℕ). word < 2 ^ l.1) words × AreMemories m lines memories
+    (length words ≡ last_address (sort_of m l.0) + 1) × AllByRecursion (λ (word : ℕ). word < 2 ^ l.1) words × AreMemories m lines memories
 AreMemories m [] (words ∷ memories) = ⊥
 AreMemories m (l ∷ lines) [] = ⊥
 

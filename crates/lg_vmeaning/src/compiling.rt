@@ -3,10 +3,10 @@
 ghost use Rattle.std.specs.Prelude.{◌≡◌, ◌<◌, ◌++◌, All, length, map, filter_map, slice_get, None, Some, IfOk};
 ghost use Rattle.lg_vrules.specs.Known.{IsIndex, AreNarrow};
 ghost use Rattle.lg_vrules.specs.Order.{IsOrder};
-ghost use Rattle.lg_vrules.specs.Places.{place_under};
+ghost use Rattle.lg_vrules.specs.Indexes.{index_under};
 ghost use Rattle.lg_vrules.specs.Rules.{first_broken};
 ghost use Rattle.lg_vrules.specs.Things.{is_input, is_output};
-ghost use Rattle.lg_vresolve.specs.Resolved.{place_or_0};
+ghost use Rattle.lg_vresolve.specs.Resolved.{index_or_0};
 ghost use Rattle.lg_vmeaning.specs.Ports.{port_lines};
 ghost use Rattle.lg_vmeaning.specs.Compiled.{machine_of};
 ghost use Rattle.lg_vmeaning.specs.ByName.{term_by};
@@ -16,7 +16,7 @@ use crate::ports::PortLine;
 use crate::stores::Stores;
 use lg_vmachine::{Machine, Term};
 use lg_vresolve::Resolver;
-use lg_vrules::{NameIndex, Places, stmts, stored_names};
+use lg_vrules::{Indexes, NameIndex, stmts, stored_names};
 use lg_vtree::{Assign, Memory, Module};
 use sqlite_items::Items;
 use std::alloc::Global;
@@ -42,10 +42,10 @@ pub fn machine_of(
     let registers = kept_names(alloc, module, Storage::Register)?;
     let memories = kept_names(alloc, module, Storage::Memory)?;
     let known = known_names(alloc, inputs, registers.as_slice(), assigns, order)?;
-    let numbers = Places::of(alloc, known.as_slice())?;
-    let words = Places::of(alloc, memories.as_slice())?;
+    let numbers = Indexes::of(alloc, known.as_slice())?;
+    let words = Indexes::of(alloc, memories.as_slice())?;
     let stored = stored_names(alloc, stmts(module))?;
-    let stmt_places = Places::of(alloc, stored.as_slice())?;
+    let stmt_indexes = Indexes::of(alloc, stored.as_slice())?;
     let resolver = Resolver {
         names,
         numbers: &numbers,
@@ -54,11 +54,11 @@ pub fn machine_of(
     let stores = Stores {
         resolver,
         stmts: stmts(module),
-        places: &stmt_places,
+        indexes: &stmt_indexes,
     };
     Ok(Machine {
         equations: equations(alloc, &resolver, assigns, order)?,
-        outputs: places(alloc, &numbers, outputs)?,
+        outputs: indexes(alloc, &numbers, outputs)?,
         registers: stores.nexts(alloc, registers.as_slice())?,
         memories: stores.writes(alloc, memories.as_slice())?,
     })
@@ -72,7 +72,7 @@ fn known_names<'a>(
     assigns: &'a [Assign],
     order: &[usize],
 ) -> Result<Vec<&'a str>, Memory>
-    requires { All (λ place. place < length assigns.now) order.now }
+    requires { All (λ index. index < length assigns.now) order.now }
     ensures { IfOk result (λ names. map (λ name. name.now) names.items ≡ map (λ line. line.name) inputs.now ++ map (λ name. name.now) registers.now ++ map (λ assign. assign.name) (filter_map (slice_get assigns.now) order.now)) }
 {
     let mut names = Vec::new(alloc);
@@ -82,8 +82,8 @@ fn known_names<'a>(
     for name in registers {
         names.push(*name)?;
     }
-    for place in order {
-        names.push(assigns[*place].name.as_str())?;
+    for index in order {
+        names.push(assigns[*index].name.as_str())?;
     }
     Ok(names)
 }
@@ -95,24 +95,24 @@ fn equations(
     assigns: &[Assign],
     order: &[usize],
 ) -> Result<Items<Term>, Memory>
-    requires places { All (λ place. place < length assigns.now) order.now }
+    requires indexes { All (λ index. index < length assigns.now) order.now }
     requires narrow { AreNarrow resolver.now.names.now }
     ensures { IfOk result (λ terms. terms ≡ map (λ assign. term_by resolver.now assign.value) (filter_map (slice_get assigns.now) order.now)) }
 {
     let mut terms = Items::new(alloc);
-    for place in order {
-        terms.push(resolver.resolve(alloc, &assigns[*place].value)?.term)?;
+    for index in order {
+        terms.push(resolver.resolve(alloc, &assigns[*index].value)?.term)?;
     }
     Ok(terms)
 }
 
-// The places of ports.
-fn places(alloc: Global, numbers: &Places, lines: &[PortLine]) -> Result<Items<usize>, Memory>
-    ensures { IfOk result (λ places. places ≡ map (λ line. place_or_0 (place_under numbers.now) line.name) lines.now) }
+// The indexes of ports.
+fn indexes(alloc: Global, numbers: &Indexes, lines: &[PortLine]) -> Result<Items<usize>, Memory>
+    ensures { IfOk result (λ indexes. indexes ≡ map (λ line. index_or_0 (index_under numbers.now) line.name) lines.now) }
 {
-    let mut places = Items::new(alloc);
+    let mut indexes = Items::new(alloc);
     for line in lines {
-        places.push(numbers.get(line.name.as_str()).unwrap_or(0))?;
+        indexes.push(numbers.get(line.name.as_str()).unwrap_or(0))?;
     }
-    Ok(places)
+    Ok(indexes)
 }

@@ -7,7 +7,7 @@ ghost use Rattle.lg_vmeaning.specs.Starting.{filled_memory, filled_by, with_word
 
 use crate::kept_names::{Storage, kept_names};
 use lg_vmachine::{Regs, put_word};
-use lg_vrules::{Places, filled_names, fills, words};
+use lg_vrules::{Indexes, filled_names, fills, words};
 use lg_vtree::{Decl, Fill, Memory, Module, Word};
 use sqlite_items::{Items, at};
 use std::alloc::{AllocError, Global};
@@ -20,8 +20,8 @@ pub fn start(alloc: Global, module: &Module) -> Result<Regs, Memory>
     let numbers = start_numbers(alloc, module.decls.as_slice())?;
     let mut memories = filled_memories(alloc, module)?;
     let names = kept_names(alloc, module, Storage::Memory)?;
-    let places = Places::of(alloc, names.as_slice())?;
-    put_words(&mut memories, &places, words(module));
+    let indexes = Indexes::of(alloc, names.as_slice())?;
+    put_words(&mut memories, &indexes, words(module));
     Ok(Regs { numbers, memories })
 }
 
@@ -43,11 +43,11 @@ fn filled_memories(alloc: Global, module: &Module) -> Result<Vec<Items<u128>>, M
     ensures { IfOk result (λ memories. memories.items ≡ filter_map (filled_memory «module».now) «module».now.decls) }
 {
     let names = filled_names(alloc, fills(module))?;
-    let places = Places::of(alloc, names.as_slice())?;
+    let indexes = Indexes::of(alloc, names.as_slice())?;
     let mut memories = Vec::new(alloc);
     for decl in module.decls.as_slice() {
         if let Decl::Memory { name, last, .. } = decl {
-            let value = filled_with(&places, fills(module), name.as_str());
+            let value = filled_with(&indexes, fills(module), name.as_str());
             memories.push(Items::from_vec(vec![in alloc; value; *last as usize + 1]?))?;
         }
     }
@@ -55,22 +55,22 @@ fn filled_memories(alloc: Global, module: &Module) -> Result<Vec<Items<u128>>, M
 }
 
 // The number that fills the memory of this name.
-fn filled_with(places: &Places, fills: &[Fill], name: &str) -> u128
-    ensures { result ≡ filled_by places.now fills.now name.now }
+fn filled_with(indexes: &Indexes, fills: &[Fill], name: &str) -> u128
+    ensures { result ≡ filled_by indexes.now fills.now name.now }
 {
-    places
+    indexes
         .get(name)
-        .and_then(|place| at(fills, place))
+        .and_then(|index| at(fills, index))
         .map_or(0, |fill| fill.value.value)
 }
 
 // Puts words into the memories of their names.
-fn put_words(memories: &mut Vec<Items<u128>>, places: &Places, words: &[Word])
-    ensures { memories.new.items ≡ fold (with_word_by places.now) memories.old.items words.now }
+fn put_words(memories: &mut Vec<Items<u128>>, indexes: &Indexes, words: &[Word])
+    ensures { memories.new.items ≡ fold (with_word_by indexes.now) memories.old.items words.now }
 {
     for word in words {
-        if let Some(memory) = places.get(word.name.as_str()) {
-            put_word(memories, memory, word.place, word.value.value);
+        if let Some(memory) = indexes.get(word.name.as_str()) {
+            put_word(memories, memory, word.address, word.value.value);
         }
     }
 }

@@ -2,23 +2,23 @@
 
 ghost use Rattle.std.specs.Prelude.{◌≡◌, map, slice_get, option_copied, option_and_then, IfOk};
 ghost use Rattle.lg_vrules.specs.Known.{AreNarrow};
-ghost use Rattle.lg_vrules.specs.Places.{place_under};
+ghost use Rattle.lg_vrules.specs.Indexes.{index_under};
 ghost use Rattle.lg_vmeaning.specs.Compiled.{next_by, write_by};
 ghost use Rattle.lg_vmeaning.specs.ByName.{term_by, stmt_under};
 
 use lg_vmachine::{Term, Write};
 use lg_vresolve::Resolver;
-use lg_vrules::Places;
+use lg_vrules::Indexes;
 use lg_vtree::{Memory, Stmt};
 use sqlite_items::{Items, at};
 use std::alloc::Global;
 
-/// The statements of an edge, with the place of each under the name that it stores into.
+/// The statements of an edge, with the index of each under the name that it stores into.
 #[derive(Clone, Copy)]
 pub struct Stores<'a> {
     pub resolver: Resolver<'a>,
     pub stmts: &'a [Stmt],
-    pub places: &'a Places,
+    pub indexes: &'a Indexes,
 }
 
 impl<'a> Stores<'a> {
@@ -64,13 +64,13 @@ impl<'a> Stores<'a> {
             Some(
                 Stmt::StoreIf {
                     condition,
-                    place,
+                    address,
                     value,
                     ..
                 },
             ) => Ok(Some(Write {
                 condition: self.resolver.resolve(alloc, condition)?.term,
-                place: self.resolver.resolve(alloc, place)?.term,
+                address: self.resolver.resolve(alloc, address)?.term,
                 value: self.resolver.resolve(alloc, value)?.term,
             })),
             _ => Ok(None),
@@ -81,6 +81,6 @@ impl<'a> Stores<'a> {
     fn stmt(&self, name: &str) -> Option<&Stmt>
         ensures { option_copied result ≡ stmt_under self.now name.now }
     {
-        at(self.stmts, self.places.get(name)?)
+        at(self.stmts, self.indexes.get(name)?)
     }
 }

@@ -26,7 +26,7 @@ use std::marker::Model;
 #[derive(Drop)]
 pub struct Valid {
     module: Module,
-    // The places of the assigns, each after those that it reads.
+    // The indexes of the assigns, each after those that it reads.
     order: Items<usize>,
     inputs: Items<PortLine>,
     outputs: Items<PortLine>,
@@ -104,7 +104,7 @@ impl Valid {
         self.outputs.as_slice()
     }
 
-    /// The places of the assigns in an order in which each stands after those that it reads. For registers, memories and
+    /// The indexes of the assigns in an order in which each stands after those that it reads. For registers, memories and
     /// inputs that fit, the module has exactly one solution.
     pub fn order(&self) -> &[usize]
         ensures order { IsOrder self.now result.now }

@@ -70,7 +70,7 @@ pub fn valid(alloc: Global, module: Module) -> Result<Valid, MeanFault>
     }
 }
 
-// The name that the assign at a place gives a number.
+// The name that the assign at an index gives a number.
 fn name_at(assigns: &[Assign], at: usize) -> &str
     requires { at < length assigns.now }
     ensures { (assign : Given) → slice_get assigns.now at ≡ Some assign → result.now ≡ assign.name }

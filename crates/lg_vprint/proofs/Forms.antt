@@ -6,7 +6,7 @@ use Rattle.std.specs.Result.{OnOk}
 use Rattle.lg_vtree.specs.declared.expr.Operator.{Operator}
 use Rattle.lg_vtree.specs.declared.expr.Expr.{Expr}
 use Rattle.lg_vtree.specs.declared.expr.Expr.TheOpen.{Expr-F}
-use Rattle.lg_vtree.specs.declared.expr.Expr.TheVariants.{rolls-Place, rolls-Part, rolls-Item, rolls-Join, rolls-Not, rolls-Binary, rolls-Choice}
+use Rattle.lg_vtree.specs.declared.expr.Expr.TheVariants.{rolls-Bit, rolls-Part, rolls-Item, rolls-Join, rolls-Not, rolls-Binary, rolls-Choice}
 use Rattle.lg_vtree.specs.declared.expr.Expr.TheVariants as expr
 use Rattle.lg_vtree.specs.Printed.{operator_text, after_commas, expr_text}
 use Rattle.lg_vprint.proofs.Told.{text-roll}
@@ -25,10 +25,10 @@ piece : (b a : Expr) (one two : List ℕ) → b ≡ a → two ≡ one ++ expr_te
 piece b a one two same q = q ∙ ap (λ x. one ++ expr_text x) same
 
 module _ {T E : Type 0} (r : Result T E) (e : Expr) (out : List ℕ) where
-  pub place_printed : (name : List ℕ) (place : ℕ) (one two three : List ℕ) → e ≡ expr.Place name place → one ≡ out ++ name ++ codes "[" → two ≡ one ++ decimal place → OnOk r (three ≡ two ++ codes "]") → OnOk r (three ≡ out ++ expr_text e)
-  place_printed name place one two three is p q s =
-      last r out two three (name ++ codes "[" ++ decimal place) (codes "]") (expr_text e) (then out one two (name ++ codes "[") (decimal place) (p ∙ append_assoc out name (codes "[")) q) s
-      (ap (λ x. expr_text x) is ∙ text-roll (Expr-F.Place name place) (expr.Place name place) (rolls-Place name place))
+  pub bit_printed : (name : List ℕ) (index : ℕ) (one two three : List ℕ) → e ≡ expr.Bit name index → one ≡ out ++ name ++ codes "[" → two ≡ one ++ decimal index → OnOk r (three ≡ two ++ codes "]") → OnOk r (three ≡ out ++ expr_text e)
+  bit_printed name index one two three is p q s =
+      last r out two three (name ++ codes "[" ++ decimal index) (codes "]") (expr_text e) (then out one two (name ++ codes "[") (decimal index) (p ∙ append_assoc out name (codes "[")) q) s
+      (ap (λ x. expr_text x) is ∙ text-roll (Expr-F.Bit name index) (expr.Bit name index) (rolls-Bit name index))
 
   pub part_printed : (name : List ℕ) (high low : ℕ) (one two three four five : List ℕ) → e ≡ expr.Part name high low → one ≡ out ++ name ++ codes "[" → two ≡ one ++ decimal high → three ≡ two ++ codes ":" → four ≡ three ++ decimal low
       → OnOk r (five ≡ four ++ codes "]") → OnOk r (five ≡ out ++ expr_text e)

@@ -22,7 +22,7 @@ use Rattle.lg_vtree.specs.declared.expr.Expr.TheVariants as expr
 use Rattle.lg_vtree.specs.Printed.{operator_text}
 use Rattle.lg_vtree.specs.Token.{is_name, is_number, is_range}
 use Rattle.lg_vtree.specs.Grammar.{Token, Fixed, Named, Number, Sized, is_token, range_tokens, expr_tokens, direction_token, port_tokens, ports_tokens, decl_tokens, fill_tokens, word_tokens, init_tokens, assign_tokens, edge_token, stmt_tokens, edge_tokens, is_high, decl_range, IsTree}
-use Rattle.lg_vtree.proofs.Unrolled.{tokens-Const, tokens-Whole, tokens-Place, tokens-Part, tokens-Item, tokens-Not, tokens-Binary, tokens-Choice, join_spelled, others_tokens}
+use Rattle.lg_vtree.proofs.Unrolled.{tokens-Const, tokens-Whole, tokens-Bit, tokens-Part, tokens-Item, tokens-Not, tokens-Binary, tokens-Choice, join_spelled, others_tokens}
 
 -- tokens of the subset
 abbrev Are : List Token → Type 0
@@ -76,8 +76,8 @@ const_from_parts c h = ap (list_all is_token) (tokens-Const c) ∙ h
 pub whole_from_parts : (name : List ℕ) → is_name name ≡ true → list_all is_token (expr_tokens (expr.Whole name)) ≡ true
 whole_from_parts name n = ap (list_all is_token) (tokens-Whole name) ∙ named name [] n refl
 
-pub place_from_parts : (name : List ℕ) (place : ℕ) → is_name name ≡ true → is_number place ≡ true → list_all is_token (expr_tokens (expr.Place name place)) ≡ true
-place_from_parts name place n p = ap (list_all is_token) (tokens-Place name place) ∙ named name (Fixed (codes "[") ∷ Number place ∷ Fixed (codes "]") ∷ []) n (and_from (is_number place) true p refl)
+pub bit_from_parts : (name : List ℕ) (index : ℕ) → is_name name ≡ true → is_number index ≡ true → list_all is_token (expr_tokens (expr.Bit name index)) ≡ true
+bit_from_parts name index n p = ap (list_all is_token) (tokens-Bit name index) ∙ named name (Fixed (codes "[") ∷ Number index ∷ Fixed (codes "]") ∷ []) n (and_from (is_number index) true p refl)
 
 pub part_from_parts : (name : List ℕ) (high low : ℕ) → is_name name ≡ true → is_number high ≡ true → is_number low ≡ true → list_all is_token (expr_tokens (expr.Part name high low)) ≡ true
 part_from_parts name high low n h l = ap (list_all is_token) (tokens-Part name high low) ∙ named name (Fixed (codes "[") ∷ Number high ∷ Fixed (codes ":") ∷ Number low ∷ Fixed (codes "]") ∷ []) n (and_from (is_number high) (is_number low && true) h (and_from (is_number low) true l refl))
@@ -118,11 +118,11 @@ assign_from_parts a n h = named a.name (Fixed (codes "=") ∷ (expr_tokens a.val
 pub store_from_parts : (name : List ℕ) (value : Expr) → is_name name ≡ true → list_all is_token (expr_tokens value) ≡ true → list_all is_token (stmt_tokens (stmt.Store name value)) ≡ true
 store_from_parts name value n h = named name (Fixed (codes "<=") ∷ (expr_tokens value ++ Fixed (codes ";") ∷ [])) n (both (expr_tokens value) (Fixed (codes ";") ∷ []) h refl)
 
-pub store_if_from_parts : (condition : Expr) (name : List ℕ) (place value : Expr) → list_all is_token (expr_tokens condition) ≡ true → is_name name ≡ true → list_all is_token (expr_tokens place) ≡ true → list_all is_token (expr_tokens value) ≡ true → list_all is_token (stmt_tokens (stmt.StoreIf condition name place value)) ≡ true
-store_if_from_parts condition name place value c n p v =
+pub store_if_from_parts : (condition : Expr) (name : List ℕ) (address value : Expr) → list_all is_token (expr_tokens condition) ≡ true → is_name name ≡ true → list_all is_token (expr_tokens address) ≡ true → list_all is_token (expr_tokens value) ≡ true → list_all is_token (stmt_tokens (stmt.StoreIf condition name address value)) ≡ true
+store_if_from_parts condition name address value c n p v =
     let last : List Token = expr_tokens value ++ Fixed (codes ";") ∷ [] in
-    let middle : List Token = expr_tokens place ++ Fixed (codes "]") ∷ Fixed (codes "<=") ∷ last in
-    both (expr_tokens condition) (Fixed (codes ")") ∷ Named name ∷ Fixed (codes "[") ∷ middle) c (named name (Fixed (codes "[") ∷ middle) n (both (expr_tokens place) (Fixed (codes "]") ∷ Fixed (codes "<=") ∷ last) p (both (expr_tokens value) (Fixed (codes ";") ∷ []) v refl)))
+    let middle : List Token = expr_tokens address ++ Fixed (codes "]") ∷ Fixed (codes "<=") ∷ last in
+    both (expr_tokens condition) (Fixed (codes ")") ∷ Named name ∷ Fixed (codes "[") ∷ middle) c (named name (Fixed (codes "[") ∷ middle) n (both (expr_tokens address) (Fixed (codes "]") ∷ Fixed (codes "<=") ∷ last) p (both (expr_tokens value) (Fixed (codes ";") ∷ []) v refl)))
 
 pub edge_from_stmts : (e : Edge) → list_all is_token (flat_map stmt_tokens e.stmts) ≡ true → list_all is_token (edge_tokens (Some e)) ≡ true
 edge_from_stmts e h = by_kind e.kind

@@ -25,12 +25,12 @@ use Rattle.lg_vtree.specs.declared.expr.Operator.TheVariants as operator
 use Rattle.lg_vtree.specs.declared.expr.Expr.{Expr, fold-Expr, roll-Expr, out-Expr, roll-out-Expr}
 use Rattle.lg_vtree.specs.declared.expr.Expr.TheFolds.{fold-roll-Expr}
 use Rattle.lg_vtree.specs.declared.expr.Expr.TheOpen.{Expr-F}
-use Rattle.lg_vtree.specs.declared.expr.Expr.TheVariants.{rolls-Const, rolls-Whole, rolls-Place, rolls-Part, rolls-Item, rolls-Join, rolls-Not, rolls-Binary, rolls-Choice}
+use Rattle.lg_vtree.specs.declared.expr.Expr.TheVariants.{rolls-Const, rolls-Whole, rolls-Bit, rolls-Part, rolls-Item, rolls-Join, rolls-Not, rolls-Binary, rolls-Choice}
 use Rattle.lg_vtree.specs.declared.expr.Expr.TheVariants as expr
 use Rattle.lg_vtree.specs.Printed.{range_text, constant_text, operator_text, after_commas, form_text, expr_text, direction_text, port_text, ports_text, decl_text, loop_text, fill_text, word_text, starts_text, init_text, assign_text, always_text, stmt_text, edge_text, head_text, module_text}
 use Rattle.lg_vtree.specs.Grammar.{Token, Fixed, Named, Number, Sized, token_text, is_white, begins_word, Spells, range_tokens, expr_tokens, direction_token, port_tokens, ports_tokens, decl_tokens, fill_tokens, word_tokens, init_tokens, assign_tokens, edge_token, stmt_tokens, edge_tokens, module_tokens, IsTree, IsModuleText}
 use Rattle.lg_vtree.specs.Depth.{greatest, depth}
-use Rattle.lg_vtree.proofs.Unrolled.{tokens-Const, tokens-Whole, tokens-Place, tokens-Part, tokens-Item, tokens-Not, tokens-Binary, tokens-Choice, depth-Item, depth-Join, depth-Not, depth-Binary, depth-Choice, others_tokens, join_spelled, some_depth}
+use Rattle.lg_vtree.proofs.Unrolled.{tokens-Const, tokens-Whole, tokens-Bit, tokens-Part, tokens-Item, tokens-Not, tokens-Binary, tokens-Choice, depth-Item, depth-Join, depth-Not, depth-Binary, depth-Choice, others_tokens, join_spelled, some_depth}
 
 -- pieces one after the other
 
@@ -131,8 +131,8 @@ module _ (n : ℕ) (inner : (e : Expr) → depth e ≤ n → Puts e) where
       moved (expr_tokens (expr.Const c) ++ ts) (Sized c ∷ ts) (expr_text (expr.Const c) ++ rest) (constant_text c ++ (rest)) (ap (λ t. t ++ ts) (tokens-Const c)) (ap (λ b. b ++ rest) (text-roll (Expr-F.Const c) (expr.Const c) (rolls-Const c)) ∙ as1 (constant_text c) rest) ((rest, record { white = []; is_white = refl; spelled = refl; apart = and_right (begins_word (constant_text c)) (begins_word (rest)) stop }, h)))
   form_told (Expr-F.Whole name) = subst Deeply (sym (rolls-Whole name)) (λ deep ts rest stop h.
       moved (expr_tokens (expr.Whole name) ++ ts) (Named name ∷ ts) (expr_text (expr.Whole name) ++ rest) (name ++ (rest)) (ap (λ t. t ++ ts) (tokens-Whole name)) (ap (λ b. b ++ rest) (text-roll (Expr-F.Whole name) (expr.Whole name) (rolls-Whole name)) ∙ as1 name rest) ((rest, record { white = []; is_white = refl; spelled = refl; apart = and_right (begins_word (name)) (begins_word (rest)) stop }, h)))
-  form_told (Expr-F.Place name place) = subst Deeply (sym (rolls-Place name place)) (λ deep ts rest stop h.
-      moved (expr_tokens (expr.Place name place) ++ ts) (Named name ∷ Fixed (codes "[") ∷ Number place ∷ Fixed (codes "]") ∷ ts) (expr_text (expr.Place name place) ++ rest) (name ++ ((codes "[") ++ (decimal place ++ ((codes "]") ++ (rest))))) (ap (λ t. t ++ ts) (tokens-Place name place)) (ap (λ b. b ++ rest) (text-roll (Expr-F.Place name place) (expr.Place name place) (rolls-Place name place)) ∙ as4 name (codes "[") (decimal place) (codes "]") rest) (((codes "[") ++ (decimal place ++ ((codes "]") ++ (rest))), record { white = []; is_white = refl; spelled = refl; apart = and_right (begins_word (name)) (begins_word ((codes "[") ++ (decimal place ++ ((codes "]") ++ (rest))))) refl }, (decimal place ++ ((codes "]") ++ (rest)), record { white = []; is_white = refl; spelled = refl; apart = refl }, ((codes "]") ++ (rest), record { white = []; is_white = refl; spelled = refl; apart = and_right (begins_word (decimal place)) (begins_word ((codes "]") ++ (rest))) refl }, (rest, record { white = []; is_white = refl; spelled = refl; apart = refl }, h))))))
+  form_told (Expr-F.Bit name index) = subst Deeply (sym (rolls-Bit name index)) (λ deep ts rest stop h.
+      moved (expr_tokens (expr.Bit name index) ++ ts) (Named name ∷ Fixed (codes "[") ∷ Number index ∷ Fixed (codes "]") ∷ ts) (expr_text (expr.Bit name index) ++ rest) (name ++ ((codes "[") ++ (decimal index ++ ((codes "]") ++ (rest))))) (ap (λ t. t ++ ts) (tokens-Bit name index)) (ap (λ b. b ++ rest) (text-roll (Expr-F.Bit name index) (expr.Bit name index) (rolls-Bit name index)) ∙ as4 name (codes "[") (decimal index) (codes "]") rest) (((codes "[") ++ (decimal index ++ ((codes "]") ++ (rest))), record { white = []; is_white = refl; spelled = refl; apart = and_right (begins_word (name)) (begins_word ((codes "[") ++ (decimal index ++ ((codes "]") ++ (rest))))) refl }, (decimal index ++ ((codes "]") ++ (rest)), record { white = []; is_white = refl; spelled = refl; apart = refl }, ((codes "]") ++ (rest), record { white = []; is_white = refl; spelled = refl; apart = and_right (begins_word (decimal index)) (begins_word ((codes "]") ++ (rest))) refl }, (rest, record { white = []; is_white = refl; spelled = refl; apart = refl }, h))))))
   form_told (Expr-F.Part name high low) = subst Deeply (sym (rolls-Part name high low)) (λ deep ts rest stop h.
       moved (expr_tokens (expr.Part name high low) ++ ts) (Named name ∷ Fixed (codes "[") ∷ Number high ∷ Fixed (codes ":") ∷ Number low ∷ Fixed (codes "]") ∷ ts) (expr_text (expr.Part name high low) ++ rest) (name ++ ((codes "[") ++ (decimal high ++ ((codes ":") ++ (decimal low ++ ((codes "]") ++ (rest))))))) (ap (λ t. t ++ ts) (tokens-Part name high low)) (ap (λ b. b ++ rest) (text-roll (Expr-F.Part name high low) (expr.Part name high low) (rolls-Part name high low)) ∙ as6 name (codes "[") (decimal high) (codes ":") (decimal low) (codes "]") rest) (((codes "[") ++ (decimal high ++ ((codes ":") ++ (decimal low ++ ((codes "]") ++ (rest))))), record { white = []; is_white = refl; spelled = refl; apart = and_right (begins_word (name)) (begins_word ((codes "[") ++ (decimal high ++ ((codes ":") ++ (decimal low ++ ((codes "]") ++ (rest))))))) refl }, (decimal high ++ ((codes ":") ++ (decimal low ++ ((codes "]") ++ (rest)))), record { white = []; is_white = refl; spelled = refl; apart = refl }, ((codes ":") ++ (decimal low ++ ((codes "]") ++ (rest))), record { white = []; is_white = refl; spelled = refl; apart = and_right (begins_word (decimal high)) (begins_word ((codes ":") ++ (decimal low ++ ((codes "]") ++ (rest))))) refl }, (decimal low ++ ((codes "]") ++ (rest)), record { white = []; is_white = refl; spelled = refl; apart = refl }, ((codes "]") ++ (rest), record { white = []; is_white = refl; spelled = refl; apart = and_right (begins_word (decimal low)) (begins_word ((codes "]") ++ (rest))) refl }, (rest, record { white = []; is_white = refl; spelled = refl; apart = refl }, h))))))))
   form_told (Expr-F.Item name x) = subst Deeply (sym (rolls-Item name x)) (λ deep ts rest stop h.
@@ -245,8 +245,8 @@ fill_told f ts rest h =
 
 word_told : (w : Word) (ts : List Token) (rest : List ℕ) → Told ts rest → Told (word_tokens w ++ ts) (word_text w ++ rest)
 word_told w ts rest h =
-    moved (word_tokens w ++ ts) (Named w.name ∷ (Fixed (codes "[") ∷ (Number w.place ∷ (Fixed (codes "]") ∷ (Fixed (codes "=") ∷ (Sized w.value ∷ (Fixed (codes ";") ∷ (ts)))))))) (word_text w ++ rest) ((codes "    ") ++ (w.name ++ ((codes "[") ++ (decimal w.place ++ ((codes "]") ++ ((codes " ") ++ ((codes "=") ++ ((codes " ") ++ (constant_text w.value ++ ((codes ";") ++ ((codes "\n") ++ rest))))))))))) (refl) (as7 (codes "    ") w.name (codes "[") (decimal w.place) (codes "] = ") (constant_text w.value) (codes ";\n") rest)
-    (((codes "[") ++ (decimal w.place ++ ((codes "]") ++ ((codes " ") ++ ((codes "=") ++ ((codes " ") ++ (constant_text w.value ++ ((codes ";") ++ ((codes "\n") ++ (rest))))))))), record { white = (codes "    "); is_white = refl; spelled = refl; apart = and_right (begins_word (w.name)) (begins_word ((codes "[") ++ (decimal w.place ++ ((codes "]") ++ ((codes " ") ++ ((codes "=") ++ ((codes " ") ++ (constant_text w.value ++ ((codes ";") ++ ((codes "\n") ++ (rest))))))))))) refl }, (decimal w.place ++ ((codes "]") ++ ((codes " ") ++ ((codes "=") ++ ((codes " ") ++ (constant_text w.value ++ ((codes ";") ++ ((codes "\n") ++ (rest)))))))), record { white = []; is_white = refl; spelled = refl; apart = refl }, ((codes "]") ++ ((codes " ") ++ ((codes "=") ++ ((codes " ") ++ (constant_text w.value ++ ((codes ";") ++ ((codes "\n") ++ (rest))))))), record { white = []; is_white = refl; spelled = refl; apart = and_right (begins_word (decimal w.place)) (begins_word ((codes "]") ++ ((codes " ") ++ ((codes "=") ++ ((codes " ") ++ (constant_text w.value ++ ((codes ";") ++ ((codes "\n") ++ (rest))))))))) refl }, ((codes " ") ++ ((codes "=") ++ ((codes " ") ++ (constant_text w.value ++ ((codes ";") ++ ((codes "\n") ++ (rest)))))), record { white = []; is_white = refl; spelled = refl; apart = refl }, ((codes " ") ++ (constant_text w.value ++ ((codes ";") ++ ((codes "\n") ++ (rest)))), record { white = (codes " "); is_white = refl; spelled = refl; apart = refl }, ((codes ";") ++ ((codes "\n") ++ (rest)), record { white = (codes " "); is_white = refl; spelled = refl; apart = and_right (begins_word (constant_text w.value)) (begins_word ((codes ";") ++ ((codes "\n") ++ (rest)))) refl }, ((codes "\n") ++ (rest), record { white = []; is_white = refl; spelled = refl; apart = refl }, spaced (codes "\n") refl (ts) (rest) (h)))))))))
+    moved (word_tokens w ++ ts) (Named w.name ∷ (Fixed (codes "[") ∷ (Number w.address ∷ (Fixed (codes "]") ∷ (Fixed (codes "=") ∷ (Sized w.value ∷ (Fixed (codes ";") ∷ (ts)))))))) (word_text w ++ rest) ((codes "    ") ++ (w.name ++ ((codes "[") ++ (decimal w.address ++ ((codes "]") ++ ((codes " ") ++ ((codes "=") ++ ((codes " ") ++ (constant_text w.value ++ ((codes ";") ++ ((codes "\n") ++ rest))))))))))) (refl) (as7 (codes "    ") w.name (codes "[") (decimal w.address) (codes "] = ") (constant_text w.value) (codes ";\n") rest)
+    (((codes "[") ++ (decimal w.address ++ ((codes "]") ++ ((codes " ") ++ ((codes "=") ++ ((codes " ") ++ (constant_text w.value ++ ((codes ";") ++ ((codes "\n") ++ (rest))))))))), record { white = (codes "    "); is_white = refl; spelled = refl; apart = and_right (begins_word (w.name)) (begins_word ((codes "[") ++ (decimal w.address ++ ((codes "]") ++ ((codes " ") ++ ((codes "=") ++ ((codes " ") ++ (constant_text w.value ++ ((codes ";") ++ ((codes "\n") ++ (rest))))))))))) refl }, (decimal w.address ++ ((codes "]") ++ ((codes " ") ++ ((codes "=") ++ ((codes " ") ++ (constant_text w.value ++ ((codes ";") ++ ((codes "\n") ++ (rest)))))))), record { white = []; is_white = refl; spelled = refl; apart = refl }, ((codes "]") ++ ((codes " ") ++ ((codes "=") ++ ((codes " ") ++ (constant_text w.value ++ ((codes ";") ++ ((codes "\n") ++ (rest))))))), record { white = []; is_white = refl; spelled = refl; apart = and_right (begins_word (decimal w.address)) (begins_word ((codes "]") ++ ((codes " ") ++ ((codes "=") ++ ((codes " ") ++ (constant_text w.value ++ ((codes ";") ++ ((codes "\n") ++ (rest))))))))) refl }, ((codes " ") ++ ((codes "=") ++ ((codes " ") ++ (constant_text w.value ++ ((codes ";") ++ ((codes "\n") ++ (rest)))))), record { white = []; is_white = refl; spelled = refl; apart = refl }, ((codes " ") ++ (constant_text w.value ++ ((codes ";") ++ ((codes "\n") ++ (rest)))), record { white = (codes " "); is_white = refl; spelled = refl; apart = refl }, ((codes ";") ++ ((codes "\n") ++ (rest)), record { white = (codes " "); is_white = refl; spelled = refl; apart = and_right (begins_word (constant_text w.value)) (begins_word ((codes ";") ++ ((codes "\n") ++ (rest)))) refl }, ((codes "\n") ++ (rest), record { white = []; is_white = refl; spelled = refl; apart = refl }, spaced (codes "\n") refl (ts) (rest) (h)))))))))
 
 many_told : {A : Type 0} (tokens : A → List Token) (text : A → List ℕ) → ((x : A) (ts : List Token) (rest : List ℕ) → Told ts rest → Told (tokens x ++ ts) (text x ++ rest)) → (xs : List A) (ts : List Token) (rest : List ℕ) → Told ts rest → Told (flat_map tokens xs ++ ts) (flat_map text xs ++ rest)
 many_told tokens text each [] ts rest h = h
@@ -271,9 +271,9 @@ stmt_told : (s : Stmt) (ts : List Token) (rest : List ℕ) → Told ts rest → 
 stmt_told (stmt.Store name value) ts rest h =
     moved (stmt_tokens (stmt.Store name value) ++ ts) (Named name ∷ (Fixed (codes "<=") ∷ (expr_tokens value ++ (Fixed (codes ";") ∷ (ts))))) (stmt_text (stmt.Store name value) ++ rest) ((codes "    ") ++ (name ++ ((codes " ") ++ ((codes "<=") ++ ((codes " ") ++ (expr_text value ++ ((codes ";") ++ ((codes "\n") ++ rest)))))))) (ap (λ r. Named name ∷ Fixed (codes "<=") ∷ r) (append_assoc (expr_tokens value) (Fixed (codes ";") ∷ []) ts)) (as5 (codes "    ") name (codes " <= ") (expr_text value) (codes ";\n") rest)
     (((codes " ") ++ ((codes "<=") ++ ((codes " ") ++ (expr_text value ++ ((codes ";") ++ ((codes "\n") ++ (rest)))))), record { white = (codes "    "); is_white = refl; spelled = refl; apart = and_right (begins_word (name)) (begins_word ((codes " ") ++ ((codes "<=") ++ ((codes " ") ++ (expr_text value ++ ((codes ";") ++ ((codes "\n") ++ (rest)))))))) refl }, ((codes " ") ++ (expr_text value ++ ((codes ";") ++ ((codes "\n") ++ (rest)))), record { white = (codes " "); is_white = refl; spelled = refl; apart = refl }, after_white value (expr_told value) (codes " ") refl (Fixed (codes ";") ∷ (ts)) ((codes ";") ++ ((codes "\n") ++ (rest))) refl (((codes "\n") ++ (rest), record { white = []; is_white = refl; spelled = refl; apart = refl }, spaced (codes "\n") refl (ts) (rest) (h))))))
-stmt_told (stmt.StoreIf condition name place value) ts rest h =
-    moved (stmt_tokens (stmt.StoreIf condition name place value) ++ ts) (Fixed (codes "if") ∷ (Fixed (codes "(") ∷ (expr_tokens condition ++ (Fixed (codes ")") ∷ (Named name ∷ (Fixed (codes "[") ∷ (expr_tokens place ++ (Fixed (codes "]") ∷ (Fixed (codes "<=") ∷ (expr_tokens value ++ (Fixed (codes ";") ∷ (ts)))))))))))) (stmt_text (stmt.StoreIf condition name place value) ++ rest) ((codes "    ") ++ ((codes "if") ++ ((codes " ") ++ ((codes "(") ++ (expr_text condition ++ ((codes ")") ++ ((codes " ") ++ (name ++ ((codes "[") ++ (expr_text place ++ ((codes "]") ++ ((codes " ") ++ ((codes "<=") ++ ((codes " ") ++ (expr_text value ++ ((codes ";") ++ ((codes "\n") ++ rest))))))))))))))))) (ap (λ r. Fixed (codes "if") ∷ Fixed (codes "(") ∷ r) (append_assoc (expr_tokens condition) (Fixed (codes ")") ∷ Named name ∷ Fixed (codes "[") ∷ (expr_tokens place ++ Fixed (codes "]") ∷ Fixed (codes "<=") ∷ (expr_tokens value ++ Fixed (codes ";") ∷ []))) ts ∙ ap (λ r. expr_tokens condition ++ Fixed (codes ")") ∷ Named name ∷ Fixed (codes "[") ∷ r) (append_assoc (expr_tokens place) (Fixed (codes "]") ∷ Fixed (codes "<=") ∷ (expr_tokens value ++ Fixed (codes ";") ∷ [])) ts ∙ ap (λ r. expr_tokens place ++ Fixed (codes "]") ∷ Fixed (codes "<=") ∷ r) (append_assoc (expr_tokens value) (Fixed (codes ";") ∷ []) ts)))) (as9 (codes "    if (") (expr_text condition) (codes ") ") name (codes "[") (expr_text place) (codes "] <= ") (expr_text value) (codes ";\n") rest)
-    (((codes " ") ++ ((codes "(") ++ (expr_text condition ++ ((codes ")") ++ ((codes " ") ++ (name ++ ((codes "[") ++ (expr_text place ++ ((codes "]") ++ ((codes " ") ++ ((codes "<=") ++ ((codes " ") ++ (expr_text value ++ ((codes ";") ++ ((codes "\n") ++ (rest))))))))))))))), record { white = (codes "    "); is_white = refl; spelled = refl; apart = refl }, (expr_text condition ++ ((codes ")") ++ ((codes " ") ++ (name ++ ((codes "[") ++ (expr_text place ++ ((codes "]") ++ ((codes " ") ++ ((codes "<=") ++ ((codes " ") ++ (expr_text value ++ ((codes ";") ++ ((codes "\n") ++ (rest))))))))))))), record { white = (codes " "); is_white = refl; spelled = refl; apart = refl }, after_white condition (expr_told condition) [] refl (Fixed (codes ")") ∷ (Named name ∷ (Fixed (codes "[") ∷ (expr_tokens place ++ (Fixed (codes "]") ∷ (Fixed (codes "<=") ∷ (expr_tokens value ++ (Fixed (codes ";") ∷ (ts))))))))) ((codes ")") ++ ((codes " ") ++ (name ++ ((codes "[") ++ (expr_text place ++ ((codes "]") ++ ((codes " ") ++ ((codes "<=") ++ ((codes " ") ++ (expr_text value ++ ((codes ";") ++ ((codes "\n") ++ (rest))))))))))))) refl (((codes " ") ++ (name ++ ((codes "[") ++ (expr_text place ++ ((codes "]") ++ ((codes " ") ++ ((codes "<=") ++ ((codes " ") ++ (expr_text value ++ ((codes ";") ++ ((codes "\n") ++ (rest))))))))))), record { white = []; is_white = refl; spelled = refl; apart = refl }, ((codes "[") ++ (expr_text place ++ ((codes "]") ++ ((codes " ") ++ ((codes "<=") ++ ((codes " ") ++ (expr_text value ++ ((codes ";") ++ ((codes "\n") ++ (rest))))))))), record { white = (codes " "); is_white = refl; spelled = refl; apart = and_right (begins_word (name)) (begins_word ((codes "[") ++ (expr_text place ++ ((codes "]") ++ ((codes " ") ++ ((codes "<=") ++ ((codes " ") ++ (expr_text value ++ ((codes ";") ++ ((codes "\n") ++ (rest))))))))))) refl }, (expr_text place ++ ((codes "]") ++ ((codes " ") ++ ((codes "<=") ++ ((codes " ") ++ (expr_text value ++ ((codes ";") ++ ((codes "\n") ++ (rest)))))))), record { white = []; is_white = refl; spelled = refl; apart = refl }, after_white place (expr_told place) [] refl (Fixed (codes "]") ∷ (Fixed (codes "<=") ∷ (expr_tokens value ++ (Fixed (codes ";") ∷ (ts))))) ((codes "]") ++ ((codes " ") ++ ((codes "<=") ++ ((codes " ") ++ (expr_text value ++ ((codes ";") ++ ((codes "\n") ++ (rest)))))))) refl (((codes " ") ++ ((codes "<=") ++ ((codes " ") ++ (expr_text value ++ ((codes ";") ++ ((codes "\n") ++ (rest)))))), record { white = []; is_white = refl; spelled = refl; apart = refl }, ((codes " ") ++ (expr_text value ++ ((codes ";") ++ ((codes "\n") ++ (rest)))), record { white = (codes " "); is_white = refl; spelled = refl; apart = refl }, after_white value (expr_told value) (codes " ") refl (Fixed (codes ";") ∷ (ts)) ((codes ";") ++ ((codes "\n") ++ (rest))) refl (((codes "\n") ++ (rest), record { white = []; is_white = refl; spelled = refl; apart = refl }, spaced (codes "\n") refl (ts) (rest) (h)))))))))))))
+stmt_told (stmt.StoreIf condition name address value) ts rest h =
+    moved (stmt_tokens (stmt.StoreIf condition name address value) ++ ts) (Fixed (codes "if") ∷ (Fixed (codes "(") ∷ (expr_tokens condition ++ (Fixed (codes ")") ∷ (Named name ∷ (Fixed (codes "[") ∷ (expr_tokens address ++ (Fixed (codes "]") ∷ (Fixed (codes "<=") ∷ (expr_tokens value ++ (Fixed (codes ";") ∷ (ts)))))))))))) (stmt_text (stmt.StoreIf condition name address value) ++ rest) ((codes "    ") ++ ((codes "if") ++ ((codes " ") ++ ((codes "(") ++ (expr_text condition ++ ((codes ")") ++ ((codes " ") ++ (name ++ ((codes "[") ++ (expr_text address ++ ((codes "]") ++ ((codes " ") ++ ((codes "<=") ++ ((codes " ") ++ (expr_text value ++ ((codes ";") ++ ((codes "\n") ++ rest))))))))))))))))) (ap (λ r. Fixed (codes "if") ∷ Fixed (codes "(") ∷ r) (append_assoc (expr_tokens condition) (Fixed (codes ")") ∷ Named name ∷ Fixed (codes "[") ∷ (expr_tokens address ++ Fixed (codes "]") ∷ Fixed (codes "<=") ∷ (expr_tokens value ++ Fixed (codes ";") ∷ []))) ts ∙ ap (λ r. expr_tokens condition ++ Fixed (codes ")") ∷ Named name ∷ Fixed (codes "[") ∷ r) (append_assoc (expr_tokens address) (Fixed (codes "]") ∷ Fixed (codes "<=") ∷ (expr_tokens value ++ Fixed (codes ";") ∷ [])) ts ∙ ap (λ r. expr_tokens address ++ Fixed (codes "]") ∷ Fixed (codes "<=") ∷ r) (append_assoc (expr_tokens value) (Fixed (codes ";") ∷ []) ts)))) (as9 (codes "    if (") (expr_text condition) (codes ") ") name (codes "[") (expr_text address) (codes "] <= ") (expr_text value) (codes ";\n") rest)
+    (((codes " ") ++ ((codes "(") ++ (expr_text condition ++ ((codes ")") ++ ((codes " ") ++ (name ++ ((codes "[") ++ (expr_text address ++ ((codes "]") ++ ((codes " ") ++ ((codes "<=") ++ ((codes " ") ++ (expr_text value ++ ((codes ";") ++ ((codes "\n") ++ (rest))))))))))))))), record { white = (codes "    "); is_white = refl; spelled = refl; apart = refl }, (expr_text condition ++ ((codes ")") ++ ((codes " ") ++ (name ++ ((codes "[") ++ (expr_text address ++ ((codes "]") ++ ((codes " ") ++ ((codes "<=") ++ ((codes " ") ++ (expr_text value ++ ((codes ";") ++ ((codes "\n") ++ (rest))))))))))))), record { white = (codes " "); is_white = refl; spelled = refl; apart = refl }, after_white condition (expr_told condition) [] refl (Fixed (codes ")") ∷ (Named name ∷ (Fixed (codes "[") ∷ (expr_tokens address ++ (Fixed (codes "]") ∷ (Fixed (codes "<=") ∷ (expr_tokens value ++ (Fixed (codes ";") ∷ (ts))))))))) ((codes ")") ++ ((codes " ") ++ (name ++ ((codes "[") ++ (expr_text address ++ ((codes "]") ++ ((codes " ") ++ ((codes "<=") ++ ((codes " ") ++ (expr_text value ++ ((codes ";") ++ ((codes "\n") ++ (rest))))))))))))) refl (((codes " ") ++ (name ++ ((codes "[") ++ (expr_text address ++ ((codes "]") ++ ((codes " ") ++ ((codes "<=") ++ ((codes " ") ++ (expr_text value ++ ((codes ";") ++ ((codes "\n") ++ (rest))))))))))), record { white = []; is_white = refl; spelled = refl; apart = refl }, ((codes "[") ++ (expr_text address ++ ((codes "]") ++ ((codes " ") ++ ((codes "<=") ++ ((codes " ") ++ (expr_text value ++ ((codes ";") ++ ((codes "\n") ++ (rest))))))))), record { white = (codes " "); is_white = refl; spelled = refl; apart = and_right (begins_word (name)) (begins_word ((codes "[") ++ (expr_text address ++ ((codes "]") ++ ((codes " ") ++ ((codes "<=") ++ ((codes " ") ++ (expr_text value ++ ((codes ";") ++ ((codes "\n") ++ (rest))))))))))) refl }, (expr_text address ++ ((codes "]") ++ ((codes " ") ++ ((codes "<=") ++ ((codes " ") ++ (expr_text value ++ ((codes ";") ++ ((codes "\n") ++ (rest)))))))), record { white = []; is_white = refl; spelled = refl; apart = refl }, after_white address (expr_told address) [] refl (Fixed (codes "]") ∷ (Fixed (codes "<=") ∷ (expr_tokens value ++ (Fixed (codes ";") ∷ (ts))))) ((codes "]") ++ ((codes " ") ++ ((codes "<=") ++ ((codes " ") ++ (expr_text value ++ ((codes ";") ++ ((codes "\n") ++ (rest)))))))) refl (((codes " ") ++ ((codes "<=") ++ ((codes " ") ++ (expr_text value ++ ((codes ";") ++ ((codes "\n") ++ (rest)))))), record { white = []; is_white = refl; spelled = refl; apart = refl }, ((codes " ") ++ (expr_text value ++ ((codes ";") ++ ((codes "\n") ++ (rest)))), record { white = (codes " "); is_white = refl; spelled = refl; apart = refl }, after_white value (expr_told value) (codes " ") refl (Fixed (codes ";") ∷ (ts)) ((codes ";") ++ ((codes "\n") ++ (rest))) refl (((codes "\n") ++ (rest), record { white = []; is_white = refl; spelled = refl; apart = refl }, spaced (codes "\n") refl (ts) (rest) (h)))))))))))))
 
 edge_parts : (k : EdgeKind) (ss : List Stmt) (ts : List Token) (rest : List ℕ) → Told ts rest → Told ((Fixed (codes "always") ∷ Fixed (codes "@") ∷ Fixed (codes "(") ∷ edge_token k ∷ Named (codes "clk") ∷ Fixed (codes ")") ∷ Fixed (codes "begin") ∷ (flat_map stmt_tokens ss ++ Fixed (codes "end") ∷ [])) ++ ts) ((always_text k ++ flat_map stmt_text ss ++ codes "  end\n") ++ rest)
 edge_parts Rising ss ts rest h =

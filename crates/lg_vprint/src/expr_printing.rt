@@ -11,7 +11,7 @@ use lg_vtree::{Constant, Expr, Name};
 use std::alloc::{AllocError, Global};
 
 /// Adds the text of an expression.
-#[tactic(auto, using(crate::proofs::Parts::const_from_parts, crate::proofs::Parts::whole_from_parts, crate::proofs::Parts::place_from_parts, crate::proofs::Parts::part_from_parts, crate::proofs::Parts::item_from_parts, crate::proofs::Parts::join_from_parts, crate::proofs::Parts::not_from_parts, crate::proofs::Parts::binary_from_parts, crate::proofs::Parts::choice_from_parts))]
+#[tactic(auto, using(crate::proofs::Parts::const_from_parts, crate::proofs::Parts::whole_from_parts, crate::proofs::Parts::bit_from_parts, crate::proofs::Parts::part_from_parts, crate::proofs::Parts::item_from_parts, crate::proofs::Parts::join_from_parts, crate::proofs::Parts::not_from_parts, crate::proofs::Parts::binary_from_parts, crate::proofs::Parts::choice_from_parts))]
 pub fn put_expr(alloc: Global, out: &mut Vec<u8>, expr: &Expr) -> Result<(), AllocError>
     ensures text { OnOk result (out.new.items ≡ out.old.items ++ expr_text expr.now) }
     ensures tokens { OnOk result (IsTrue (list_all is_token (expr_tokens expr.now))) }
@@ -19,9 +19,9 @@ pub fn put_expr(alloc: Global, out: &mut Vec<u8>, expr: &Expr) -> Result<(), All
     match expr {
         Expr::Const(constant) => put_constant(alloc, out, *constant),
         Expr::Whole(name) => put(out, name.as_str()),
-        Expr::Place(name, place) => {
+        Expr::Bit(name, index) => {
             put_open(out, name)?;
-            put_number(alloc, out, *place)?;
+            put_number(alloc, out, *index)?;
             put(out, "]")
         }
         Expr::Part(name, high, low) => {
@@ -31,9 +31,9 @@ pub fn put_expr(alloc: Global, out: &mut Vec<u8>, expr: &Expr) -> Result<(), All
             put_number(alloc, out, *low)?;
             put(out, "]")
         }
-        Expr::Item(name, place) => {
+        Expr::Item(name, address) => {
             put_open(out, name)?;
-            put_expr(alloc, out, place.get())?;
+            put_expr(alloc, out, address.get())?;
             put(out, "]")
         }
         Expr::Join(first, second, more) => {

@@ -263,7 +263,7 @@ fn put_word(alloc: Global, out: &mut Vec<u8>, word: &Word) -> Result<(), AllocEr
     put(out, "    ")?;
     put(out, word.name.as_str())?;
     put(out, "[")?;
-    put_number(alloc, out, word.place)?;
+    put_number(alloc, out, word.address)?;
     put(out, "] = ")?;
     put_constant(alloc, out, word.value)?;
     put(out, ";\n")
@@ -297,7 +297,7 @@ fn put_stmt(alloc: Global, out: &mut Vec<u8>, stmt: &Stmt) -> Result<(), AllocEr
         Stmt::StoreIf {
             condition,
             name,
-            place,
+            address,
             value,
         } => {
             put(out, "    if (")?;
@@ -305,7 +305,7 @@ fn put_stmt(alloc: Global, out: &mut Vec<u8>, stmt: &Stmt) -> Result<(), AllocEr
             put(out, ") ")?;
             put(out, name.as_str())?;
             put(out, "[")?;
-            put_expr(alloc, out, place)?;
+            put_expr(alloc, out, address)?;
             put(out, "] <= ")?;
             put_expr(alloc, out, value)?;
             put(out, ";\n")

@@ -376,17 +376,17 @@ fill_takes ts x e =
 word_takes : (ts : List Token) (x : Word × List Token) → word_at ts ≡ Some x → Taken word_tokens (λ _. Unit {0}) ts x
 unfolding word_at
 word_takes ts x e =
-    let a0 = bind_some (name_at ts) (λ name. after (codes "[") name.1 >>= λ bracket. number_at bracket >>= λ place. after (codes "]") place.1 >>= λ close. value_at close >>= λ value. Some (record { name = name.0; place = place.0; value = value.0 }, value.1)) x e in
+    let a0 = bind_some (name_at ts) (λ name. after (codes "[") name.1 >>= λ bracket. number_at bracket >>= λ address. after (codes "]") address.1 >>= λ close. value_at close >>= λ value. Some (record { name = name.0; address = address.0; value = value.0 }, value.1)) x e in
     let t0 = name_takes ts a0.0 a0.1 in
-    let a1 = bind_some (after (codes "[") a0.0.1) (λ bracket. number_at bracket >>= λ place. after (codes "]") place.1 >>= λ close. value_at close >>= λ value. Some (record { name = a0.0.0; place = place.0; value = value.0 }, value.1)) x a0.2 in
+    let a1 = bind_some (after (codes "[") a0.0.1) (λ bracket. number_at bracket >>= λ address. after (codes "]") address.1 >>= λ close. value_at close >>= λ value. Some (record { name = a0.0.0; address = address.0; value = value.0 }, value.1)) x a0.2 in
     let t1 = after_takes (codes "[") a0.0.1 a1.0 a1.1 in
-    let a2 = bind_some (number_at a1.0) (λ place. after (codes "]") place.1 >>= λ close. value_at close >>= λ value. Some (record { name = a0.0.0; place = place.0; value = value.0 }, value.1)) x a1.2 in
+    let a2 = bind_some (number_at a1.0) (λ address. after (codes "]") address.1 >>= λ close. value_at close >>= λ value. Some (record { name = a0.0.0; address = address.0; value = value.0 }, value.1)) x a1.2 in
     let t2 = number_takes a1.0 a2.0 a2.1 in
-    let a3 = bind_some (after (codes "]") a2.0.1) (λ close. value_at close >>= λ value. Some (record { name = a0.0.0; place = a2.0.0; value = value.0 }, value.1)) x a2.2 in
+    let a3 = bind_some (after (codes "]") a2.0.1) (λ close. value_at close >>= λ value. Some (record { name = a0.0.0; address = a2.0.0; value = value.0 }, value.1)) x a2.2 in
     let t3 = after_takes (codes "]") a2.0.1 a3.0 a3.1 in
-    let a4 = bind_some (value_at a3.0) (λ value. Some (record { name = a0.0.0; place = a2.0.0; value = value.0 }, value.1)) x a3.2 in
+    let a4 = bind_some (value_at a3.0) (λ value. Some (record { name = a0.0.0; address = a2.0.0; value = value.0 }, value.1)) x a3.2 in
     let t4 = value_takes a3.0 a4.0 a4.1 in
-    let made : (record { name = a0.0.0; place = a2.0.0; value = a4.0.0 }, a4.0.1) ≡ x = same_Some (record { name = a0.0.0; place = a2.0.0; value = a4.0.0 }, a4.0.1) x a4.2 in
+    let made : (record { name = a0.0.0; address = a2.0.0; value = a4.0.0 }, a4.0.1) ≡ x = same_Some (record { name = a0.0.0; address = a2.0.0; value = a4.0.0 }, a4.0.1) x a4.2 in
     subst (Taken word_tokens (λ _. Unit {0}) ts) made (t0 ∙ ap (λ r. Named a0.0.0 ∷ r) (t1 ∙ ap (λ r. Fixed (codes "[") ∷ r) (t2 ∙ ap (λ r. Number a2.0.0 ∷ r) (t3 ∙ ap (λ r. Fixed (codes "]") ∷ r) (t4)))), tt)
 
 init_start_takes : (ts rest : List Token) → init_start_at ts ≡ Some rest → ts ≡ init_start ++ rest

@@ -8,13 +8,13 @@ use Rattle.lg_vtree.specs.declared.expr.Operator.{Operator}
 use Rattle.lg_vtree.specs.declared.expr.Expr.{Expr, fold-Expr, roll-Expr, out-Expr, roll-out-Expr, out-roll-Expr}
 use Rattle.lg_vtree.specs.declared.expr.Expr.TheFolds.{fold-roll-Expr}
 use Rattle.lg_vtree.specs.declared.expr.Expr.TheOpen.{Expr-F}
-use Rattle.lg_vtree.specs.declared.expr.Expr.TheVariants.{rolls-Const, rolls-Whole, rolls-Place, rolls-Part, rolls-Item, rolls-Join, rolls-Not, rolls-Binary, rolls-Choice}
+use Rattle.lg_vtree.specs.declared.expr.Expr.TheVariants.{rolls-Const, rolls-Whole, rolls-Bit, rolls-Part, rolls-Item, rolls-Join, rolls-Not, rolls-Binary, rolls-Choice}
 use Rattle.lg_vtree.specs.declared.expr.Expr.TheVariants as expr
 use Rattle.lg_vtree.specs.Printed.{operator_text}
 use Rattle.lg_vtree.specs.Grammar.{Token, Fixed, Named, Number, Sized, form_tokens, expr_tokens}
 use Rattle.lg_vtree.specs.Depth.{greatest, form_depth, depth}
-use Rattle.lg_vread.specs.Reading.{◌>>=◌, is_at, tail, after, name_at, number_at, operator_at, many_at, not_at, binary_at, choice_at, operation_at, other_at, join_at, place_at, item_at, index_at, named_at, plain_at, paren_at, form_at, expr_at}
-use Rattle.lg_vtree.proofs.Unrolled.{tokens-roll, depth-roll, tokens-Const, tokens-Whole, tokens-Place, tokens-Part, tokens-Item, tokens-Join, tokens-Not, tokens-Binary, tokens-Choice, depth-Item, depth-Join, depth-Not, depth-Binary, depth-Choice, others_tokens, join_spelled, some_depth}
+use Rattle.lg_vread.specs.Reading.{◌>>=◌, is_at, tail, after, name_at, number_at, operator_at, many_at, not_at, binary_at, choice_at, operation_at, other_at, join_at, bits_at, item_at, select_at, named_at, plain_at, paren_at, form_at, expr_at}
+use Rattle.lg_vtree.proofs.Unrolled.{tokens-roll, depth-roll, tokens-Const, tokens-Whole, tokens-Bit, tokens-Part, tokens-Item, tokens-Join, tokens-Not, tokens-Binary, tokens-Choice, depth-Item, depth-Join, depth-Not, depth-Binary, depth-Choice, others_tokens, join_spelled, some_depth}
 use Rattle.lg_vread.proofs.Steps.{bind_some, bind_at, chosen, at_takes, after_takes, name_takes, number_takes, operator_takes, operator_again, operator_no_question, operator_no_bracket, part, Taken, IsReader, many_takes, all_again}
 
 -- what the first token of an expression is not
@@ -25,7 +25,7 @@ pub record BeginsExpr (ts : List Token) : Type 0 where
 begins-form : (f : Expr-F Expr) (rest : List Token) → BeginsExpr (expr_tokens (roll-Expr f) ++ rest)
 begins-form (Expr-F.Const c) rest = subst (λ t. BeginsExpr (t ++ rest)) (sym (tokens-roll (Expr-F.Const c) (roll-Expr (Expr-F.Const c)) refl)) (record { number = refl; tilde = refl })
 begins-form (Expr-F.Whole name) rest = subst (λ t. BeginsExpr (t ++ rest)) (sym (tokens-roll (Expr-F.Whole name) (roll-Expr (Expr-F.Whole name)) refl)) (record { number = refl; tilde = refl })
-begins-form (Expr-F.Place name place) rest = subst (λ t. BeginsExpr (t ++ rest)) (sym (tokens-roll (Expr-F.Place name place) (roll-Expr (Expr-F.Place name place)) refl)) (record { number = refl; tilde = refl })
+begins-form (Expr-F.Bit name index) rest = subst (λ t. BeginsExpr (t ++ rest)) (sym (tokens-roll (Expr-F.Bit name index) (roll-Expr (Expr-F.Bit name index)) refl)) (record { number = refl; tilde = refl })
 begins-form (Expr-F.Part name high low) rest = subst (λ t. BeginsExpr (t ++ rest)) (sym (tokens-roll (Expr-F.Part name high low) (roll-Expr (Expr-F.Part name high low)) refl)) (record { number = refl; tilde = refl })
 begins-form (Expr-F.Item name e) rest = subst (λ t. BeginsExpr (t ++ rest)) (sym (tokens-roll (Expr-F.Item name e) (roll-Expr (Expr-F.Item name e)) refl)) (record { number = refl; tilde = refl })
 begins-form (Expr-F.Join a b more) rest = subst (λ t. BeginsExpr (t ++ rest)) (sym (tokens-roll (Expr-F.Join a b more) (roll-Expr (Expr-F.Join a b more)) refl)) (record { number = refl; tilde = refl })
@@ -52,8 +52,8 @@ Follows ts = is_at (codes "[") ts ≡ false
 abbrev pub IsDeep : ℕ → Expr → Type 0
 IsDeep n e = depth e ≤ n
 
-pub index-item : (inner : List Token → Option (Expr × List Token)) (name : List ℕ) (ts : List Token) → number_at ts ≡ None → index_at inner name ts ≡ item_at inner name ts
-unfolding index_at
+pub index-item : (inner : List Token → Option (Expr × List Token)) (name : List ℕ) (ts : List Token) → number_at ts ≡ None → select_at inner name ts ≡ item_at inner name ts
+unfolding select_at
 index-item inner name [] e = refl
 index-item inner name (Fixed word ∷ ts) e = refl
 index-item inner name (Named other ∷ ts) e = refl
@@ -228,9 +228,9 @@ module _ (inner : List Token → Option (Expr × List Token)) (n : ℕ) (is : Is
       ∙ bind_at (others last) (λ more. after (codes "}") more.1 >>= λ end. Some (expr.Join a b more.0, end)) (more, end)
       (all_again (is_at (codes ",")) (other_at inner) (λ e. Fixed (codes ",") ∷ expr_tokens e) (IsDeep n) Follows other_reader (λ e r. refl) (λ e r. refl) (λ e. omega arith) more end (each_least n more (omega (arith, deep, d))) refl refl)
 
-  place_takes : (name : List ℕ) (number : ℕ) (ts : List Token) (x : Expr × List Token) → place_at name number ts ≡ Some x → IsTaken (Named name ∷ Fixed (codes "[") ∷ Number number ∷ ts) x
-  unfolding place_at
-  place_takes name number ts x e = elim (chosen (is_at (codes ":") ts) (number_at (tail ts) >>= λ low. after (codes "]") low.1 >>= λ end. Some (expr.Part name number low.0, end)) (after (codes "]") ts >>= λ end. Some (expr.Place name number, end)) (Some x) e)
+  bits_takes : (name : List ℕ) (number : ℕ) (ts : List Token) (x : Expr × List Token) → bits_at name number ts ≡ Some x → IsTaken (Named name ∷ Fixed (codes "[") ∷ Number number ∷ ts) x
+  unfolding bits_at
+  bits_takes name number ts x e = elim (chosen (is_at (codes ":") ts) (number_at (tail ts) >>= λ low. after (codes "]") low.1 >>= λ end. Some (expr.Part name number low.0, end)) (after (codes "]") ts >>= λ end. Some (expr.Bit name number, end)) (Some x) e)
       as (λ _. IsTaken (Named name ∷ Fixed (codes "[") ∷ Number number ∷ ts) x) [
         | inl w ↦
             let a = bind_some (number_at (tail ts)) (λ low. after (codes "]") low.1 >>= λ end. Some (expr.Part name number low.0, end)) x w.1 in
@@ -239,15 +239,15 @@ module _ (inner : List Token → Option (Expr × List Token)) (n : ℕ) (is : Is
             let spelled : ts ≡ Fixed (codes ":") ∷ Number a.0.0 ∷ Fixed (codes "]") ∷ b.0 = at_takes (codes ":") ts w.0 ∙ ap (λ r. Fixed (codes ":") ∷ r) (number_takes (tail ts) a.0 a.1 ∙ ap (λ r. Number a.0.0 ∷ r) (after_takes (codes "]") a.0.1 b.0 b.1)) in
             subst (IsTaken (Named name ∷ Fixed (codes "[") ∷ Number number ∷ ts)) made (ap (λ r. Named name ∷ Fixed (codes "[") ∷ Number number ∷ r) spelled ∙ ap (λ t. t ++ b.0) (sym (tokens-Part name number a.0.0)), omega (arith, depth-roll (Expr-F.Part name number a.0.0) (expr.Part name number a.0.0) (rolls-Part name number a.0.0)))
         | inr w ↦
-            let b = bind_some (after (codes "]") ts) (λ end. Some (expr.Place name number, end)) x w.1 in
-            let made : (expr.Place name number, b.0) ≡ x = cc b.2 in
-            subst (IsTaken (Named name ∷ Fixed (codes "[") ∷ Number number ∷ ts)) made (ap (λ r. Named name ∷ Fixed (codes "[") ∷ Number number ∷ r) (after_takes (codes "]") ts b.0 b.1) ∙ ap (λ t. t ++ b.0) (sym (tokens-Place name number)), omega (arith, depth-roll (Expr-F.Place name number) (expr.Place name number) (rolls-Place name number)))
+            let b = bind_some (after (codes "]") ts) (λ end. Some (expr.Bit name number, end)) x w.1 in
+            let made : (expr.Bit name number, b.0) ≡ x = cc b.2 in
+            subst (IsTaken (Named name ∷ Fixed (codes "[") ∷ Number number ∷ ts)) made (ap (λ r. Named name ∷ Fixed (codes "[") ∷ Number number ∷ r) (after_takes (codes "]") ts b.0 b.1) ∙ ap (λ t. t ++ b.0) (sym (tokens-Bit name number)), omega (arith, depth-roll (Expr-F.Bit name number) (expr.Bit name number) (rolls-Bit name number)))
       ]
 
   item_takes : (name : List ℕ) (ts : List Token) (x : Expr × List Token) → item_at inner name ts ≡ Some x → IsTaken (Named name ∷ Fixed (codes "[") ∷ ts) x
   unfolding item_at
   item_takes name ts x e =
-      let a = bind_some (inner ts) (λ place. after (codes "]") place.1 >>= λ end. Some (expr.Item name place.0, end)) x e in
+      let a = bind_some (inner ts) (λ address. after (codes "]") address.1 >>= λ end. Some (expr.Item name address.0, end)) x e in
       let b = bind_some (after (codes "]") a.0.1) (λ end. Some (expr.Item name a.0.0, end)) x a.2 in
       let made : (expr.Item name a.0.0, b.0) ≡ x = cc b.2 in
       let first = is.takes ts a.0 a.1 in
@@ -257,21 +257,21 @@ module _ (inner : List Token → Option (Expr × List Token)) (n : ℕ) (is : Is
         omega (arith, first.1, depth-Item name a.0.0),
       )
 
-  index_takes : (name : List ℕ) (ts : List Token) (x : Expr × List Token) → index_at inner name ts ≡ Some x → IsTaken (Named name ∷ Fixed (codes "[") ∷ ts) x
-  unfolding index_at
-  index_takes name [] x e = item_takes name [] x e
-  index_takes name (Fixed word ∷ ts) x e = item_takes name (Fixed word ∷ ts) x e
-  index_takes name (Named other ∷ ts) x e = item_takes name (Named other ∷ ts) x e
-  index_takes name (Number number ∷ ts) x e = place_takes name number ts x e
-  index_takes name (Sized c ∷ ts) x e = item_takes name (Sized c ∷ ts) x e
+  select_takes : (name : List ℕ) (ts : List Token) (x : Expr × List Token) → select_at inner name ts ≡ Some x → IsTaken (Named name ∷ Fixed (codes "[") ∷ ts) x
+  unfolding select_at
+  select_takes name [] x e = item_takes name [] x e
+  select_takes name (Fixed word ∷ ts) x e = item_takes name (Fixed word ∷ ts) x e
+  select_takes name (Named other ∷ ts) x e = item_takes name (Named other ∷ ts) x e
+  select_takes name (Number number ∷ ts) x e = bits_takes name number ts x e
+  select_takes name (Sized c ∷ ts) x e = item_takes name (Sized c ∷ ts) x e
 
   named_takes : (ts : List Token) (x : Expr × List Token) → named_at inner ts ≡ Some x → IsTaken ts x
   unfolding named_at
   named_takes ts x e =
-      let a = bind_some (name_at ts) (λ name. cond (is_at (codes "[") name.1) (index_at inner name.0 (tail name.1)) (Some (expr.Whole name.0, name.1))) x e in
+      let a = bind_some (name_at ts) (λ name. cond (is_at (codes "[") name.1) (select_at inner name.0 (tail name.1)) (Some (expr.Whole name.0, name.1))) x e in
       let first = name_takes ts a.0 a.1 in
-      elim (chosen (is_at (codes "[") a.0.1) (index_at inner a.0.0 (tail a.0.1)) (Some (expr.Whole a.0.0, a.0.1)) (Some x) a.2) as (λ _. IsTaken ts x) [
-        | inl w ↦ subst (λ r. IsTaken r x) (sym (first ∙ ap (λ r. Named a.0.0 ∷ r) (at_takes (codes "[") a.0.1 w.0))) (index_takes a.0.0 (tail a.0.1) x w.1)
+      elim (chosen (is_at (codes "[") a.0.1) (select_at inner a.0.0 (tail a.0.1)) (Some (expr.Whole a.0.0, a.0.1)) (Some x) a.2) as (λ _. IsTaken ts x) [
+        | inl w ↦ subst (λ r. IsTaken r x) (sym (first ∙ ap (λ r. Named a.0.0 ∷ r) (at_takes (codes "[") a.0.1 w.0))) (select_takes a.0.0 (tail a.0.1) x w.1)
         | inr w ↦
             let made : (expr.Whole a.0.0, a.0.1) ≡ x = cc w.1 in
             subst (IsTaken ts) made (first ∙ ap (λ t. t ++ a.0.1) (sym (tokens-Whole a.0.0)), omega (arith, depth-roll (Expr-F.Whole a.0.0) (expr.Whole a.0.0) (rolls-Whole a.0.0)))
@@ -303,21 +303,21 @@ module _ (inner : List Token → Option (Expr × List Token)) (n : ℕ) (is : Is
       let end : List Token = Fixed (codes "]") ∷ rest in
       let start : List Token = expr_tokens e ++ end in
       ap (λ t. form_at inner (t ++ rest)) (tokens-Item name e)
-      ∙ ap (λ ts. index_at inner name ts) (append_assoc (expr_tokens e) (Fixed (codes "]") ∷ []) rest)
+      ∙ ap (λ ts. select_at inner name ts) (append_assoc (expr_tokens e) (Fixed (codes "]") ∷ []) rest)
       ∙ index-item inner name start (begins_expr e end).number
-      ∙ bind_at (inner start) (λ place. after (codes "]") place.1 >>= λ end. Some (expr.Item name place.0, end)) (e, end) (is.again e end (omega (arith, deep, depth-Item name e)) refl)
+      ∙ bind_at (inner start) (λ address. after (codes "]") address.1 >>= λ end. Some (expr.Item name address.0, end)) (e, end) (is.again e end (omega (arith, deep, depth-Item name e)) refl)
 
   whole_again : (name : List ℕ) (rest : List Token) → Follows rest → form_at inner (expr_tokens (expr.Whole name) ++ rest) ≡ Some (expr.Whole name, rest)
   unfolding form_at plain_at named_at
   whole_again name rest next =
-      ap (λ t. form_at inner (t ++ rest)) (tokens-Whole name) ∙ cond-false (is_at (codes "[") rest) (index_at inner name (tail rest)) (Some (expr.Whole name, rest)) next
+      ap (λ t. form_at inner (t ++ rest)) (tokens-Whole name) ∙ cond-false (is_at (codes "[") rest) (select_at inner name (tail rest)) (Some (expr.Whole name, rest)) next
 
-  place_again : (name : List ℕ) (place : ℕ) (rest : List Token) → form_at inner (expr_tokens (expr.Place name place) ++ rest) ≡ Some (expr.Place name place, rest)
-  unfolding form_at plain_at named_at index_at place_at
-  place_again name place rest = ap (λ t. form_at inner (t ++ rest)) (tokens-Place name place)
+  bit_again : (name : List ℕ) (index : ℕ) (rest : List Token) → form_at inner (expr_tokens (expr.Bit name index) ++ rest) ≡ Some (expr.Bit name index, rest)
+  unfolding form_at plain_at named_at select_at bits_at
+  bit_again name index rest = ap (λ t. form_at inner (t ++ rest)) (tokens-Bit name index)
 
   part_again : (name : List ℕ) (high low : ℕ) (rest : List Token) → form_at inner (expr_tokens (expr.Part name high low) ++ rest) ≡ Some (expr.Part name high low, rest)
-  unfolding form_at plain_at named_at index_at place_at
+  unfolding form_at plain_at named_at select_at bits_at
   part_again name high low rest = ap (λ t. form_at inner (t ++ rest)) (tokens-Part name high low)
 
   const_again : (c : Constant) (rest : List Token) → form_at inner (expr_tokens (expr.Const c) ++ rest) ≡ Some (expr.Const c, rest)
@@ -331,7 +331,7 @@ module _ (inner : List Token → Option (Expr × List Token)) (n : ℕ) (is : Is
   form_again : (f : Expr-F Expr) → Again (roll-Expr f)
   form_again (Expr-F.Const c) = subst Again (sym (rolls-Const c)) (λ rest deep next. const_again c rest)
   form_again (Expr-F.Whole name) = subst Again (sym (rolls-Whole name)) (λ rest deep next. whole_again name rest next)
-  form_again (Expr-F.Place name place) = subst Again (sym (rolls-Place name place)) (λ rest deep next. place_again name place rest)
+  form_again (Expr-F.Bit name index) = subst Again (sym (rolls-Bit name index)) (λ rest deep next. bit_again name index rest)
   form_again (Expr-F.Part name high low) = subst Again (sym (rolls-Part name high low)) (λ rest deep next. part_again name high low rest)
   form_again (Expr-F.Item name e) = subst Again (sym (rolls-Item name e)) (λ rest deep next. item_again name e rest deep)
   form_again (Expr-F.Join a b more) = subst Again (sym (rolls-Join a b more)) (λ rest deep next. join_again a b more rest deep)

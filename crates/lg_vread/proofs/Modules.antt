@@ -91,11 +91,11 @@ if_tokens condition t = ap (λ r. Fixed (codes "(") ∷ r) (sym (append_assoc (e
 
 stmt_opens : (s : Stmt) (r : List Token) → goes_on (stmt_tokens s ++ r) ≡ true
 stmt_opens (stmt.Store name value) r = refl
-stmt_opens (stmt.StoreIf condition name place value) r = refl
+stmt_opens (stmt.StoreIf condition name address value) r = refl
 
 pub stmt_some : (s : Stmt) → 0 < length (stmt_tokens s)
 stmt_some (stmt.Store name value) = omega arith
-stmt_some (stmt.StoreIf condition name place value) = omega arith
+stmt_some (stmt.StoreIf condition name address value) = omega arith
 
 -- before what is no edge
 abbrev pub NoEdge : List Token → Type 0
@@ -200,11 +200,11 @@ module _ (most : ℕ) where
   target_takes : (ts : List Token) (x : (List ℕ × Expr × Expr) × List Token) → target_at most ts ≡ Some x → Taken targeted IsTarget ts x
   unfolding target_at
   target_takes ts x e =
-      let a0 = bind_some (name_at ts) (λ name. after (codes "[") name.1 >>= λ bracket. expr_at most bracket >>= λ place. after (codes "]") place.1 >>= λ close. stored_at most close >>= λ value. Some ((name.0, place.0, value.0), value.1)) x e in
+      let a0 = bind_some (name_at ts) (λ name. after (codes "[") name.1 >>= λ bracket. expr_at most bracket >>= λ address. after (codes "]") address.1 >>= λ close. stored_at most close >>= λ value. Some ((name.0, address.0, value.0), value.1)) x e in
       let t0 = name_takes ts a0.0 a0.1 in
-      let a1 = bind_some (after (codes "[") a0.0.1) (λ bracket. expr_at most bracket >>= λ place. after (codes "]") place.1 >>= λ close. stored_at most close >>= λ value. Some ((a0.0.0, place.0, value.0), value.1)) x a0.2 in
+      let a1 = bind_some (after (codes "[") a0.0.1) (λ bracket. expr_at most bracket >>= λ address. after (codes "]") address.1 >>= λ close. stored_at most close >>= λ value. Some ((a0.0.0, address.0, value.0), value.1)) x a0.2 in
       let t1 = after_takes (codes "[") a0.0.1 a1.0 a1.1 in
-      let a2 = bind_some (expr_at most a1.0) (λ place. after (codes "]") place.1 >>= λ close. stored_at most close >>= λ value. Some ((a0.0.0, place.0, value.0), value.1)) x a1.2 in
+      let a2 = bind_some (expr_at most a1.0) (λ address. after (codes "]") address.1 >>= λ close. stored_at most close >>= λ value. Some ((a0.0.0, address.0, value.0), value.1)) x a1.2 in
       let t2 = (expr_reader most).takes a1.0 a2.0 a2.1 in
       let a3 = bind_some (after (codes "]") a2.0.1) (λ close. stored_at most close >>= λ value. Some ((a0.0.0, a2.0.0, value.0), value.1)) x a2.2 in
       let t3 = after_takes (codes "]") a2.0.1 a3.0 a3.1 in
@@ -216,8 +216,8 @@ module _ (most : ℕ) where
   target_again : (t : List ℕ × Expr × Expr) (rest : List Token) → IsTarget t → target_at most (targeted t ++ rest) ≡ Some (t, rest)
   unfolding target_at
   target_again t rest good =
-      ap (λ ts. expr_at most ts >>= (λ place. after (codes "]") place.1 >>= λ close. stored_at most close >>= λ value. Some ((t.0, place.0, value.0), value.1))) (append_assoc (expr_tokens t.1) (Fixed (codes "]") ∷ ((stored t.2))) rest)
-      ∙ bind_at (expr_at most ((expr_tokens t.1) ++ ((Fixed (codes "]") ∷ ((stored t.2))) ++ rest))) (λ place. after (codes "]") place.1 >>= λ close. stored_at most close >>= λ value. Some ((t.0, place.0, value.0), value.1)) (t.1, ((Fixed (codes "]") ∷ ((stored t.2))) ++ rest)) ((expr_reader most).again t.1 ((Fixed (codes "]") ∷ ((stored t.2))) ++ rest) good.0 refl)
+      ap (λ ts. expr_at most ts >>= (λ address. after (codes "]") address.1 >>= λ close. stored_at most close >>= λ value. Some ((t.0, address.0, value.0), value.1))) (append_assoc (expr_tokens t.1) (Fixed (codes "]") ∷ ((stored t.2))) rest)
+      ∙ bind_at (expr_at most ((expr_tokens t.1) ++ ((Fixed (codes "]") ∷ ((stored t.2))) ++ rest))) (λ address. after (codes "]") address.1 >>= λ close. stored_at most close >>= λ value. Some ((t.0, address.0, value.0), value.1)) (t.1, ((Fixed (codes "]") ∷ ((stored t.2))) ++ rest)) ((expr_reader most).again t.1 ((Fixed (codes "]") ∷ ((stored t.2))) ++ rest) good.0 refl)
       ∙ bind_at (stored_at most ((stored t.2) ++ rest)) (λ value. Some ((t.0, t.1, value.0), value.1)) (t.2, rest) (stored_reader.again t.2 rest good.1 tt)
 
   target_reader : IsReader (target_at most) targeted IsTarget (λ _. Unit {0})
@@ -233,13 +233,13 @@ module _ (most : ℕ) where
       let made : (stmt.StoreIf a0.0.0 a1.0.0.0 a1.0.0.1 a1.0.0.2, a1.0.1) ≡ x = same_Some (stmt.StoreIf a0.0.0 a1.0.0.0 a1.0.0.1 a1.0.0.2, a1.0.1) x a1.2 in
       subst (Taken stmt_tokens IsStmt (after_if ts)) made (ap (λ r. after_if r) (part (conditioned a0.0.0) ((targeted a1.0.0)) ts a0.0.1 a1.0.1 t0.0 (t1.0) ∙ ap (λ r. r ++ a1.0.1) (sym (if_tokens a0.0.0 a1.0.0))), omega (arith, t0.1, t1.1.0, t1.1.1))
 
-  store_if_again : (condition : Expr) (name : List ℕ) (place value : Expr) (rest : List Token) → IsStmt (stmt.StoreIf condition name place value) → store_if_at most (tail (stmt_tokens (stmt.StoreIf condition name place value) ++ rest)) ≡ Some (stmt.StoreIf condition name place value, rest)
+  store_if_again : (condition : Expr) (name : List ℕ) (address value : Expr) (rest : List Token) → IsStmt (stmt.StoreIf condition name address value) → store_if_at most (tail (stmt_tokens (stmt.StoreIf condition name address value) ++ rest)) ≡ Some (stmt.StoreIf condition name address value, rest)
   unfolding store_if_at
-  store_if_again condition name place value rest good =
-      ap (λ r. store_if_at most (r ++ rest)) (if_tokens condition (name, place, value))
-      ∙ ap (λ ts. condition_at most ts >>= (λ condition. target_at most condition.1 >>= λ target. Some (stmt.StoreIf condition.0 target.0.0 target.0.1 target.0.2, target.1))) (append_assoc (conditioned condition) ((targeted (name, place, value))) rest)
-      ∙ bind_at (condition_at most ((conditioned condition) ++ (((targeted (name, place, value))) ++ rest))) (λ condition. target_at most condition.1 >>= λ target. Some (stmt.StoreIf condition.0 target.0.0 target.0.1 target.0.2, target.1)) (condition, (((targeted (name, place, value))) ++ rest)) (condition_reader.again condition (((targeted (name, place, value))) ++ rest) (omega (arith, good)) tt)
-      ∙ bind_at (target_at most ((targeted (name, place, value)) ++ rest)) (λ target. Some (stmt.StoreIf condition target.0.0 target.0.1 target.0.2, target.1)) ((name, place, value), rest) (target_reader.again (name, place, value) rest (omega (arith, good), omega (arith, good)) tt)
+  store_if_again condition name address value rest good =
+      ap (λ r. store_if_at most (r ++ rest)) (if_tokens condition (name, address, value))
+      ∙ ap (λ ts. condition_at most ts >>= (λ condition. target_at most condition.1 >>= λ target. Some (stmt.StoreIf condition.0 target.0.0 target.0.1 target.0.2, target.1))) (append_assoc (conditioned condition) ((targeted (name, address, value))) rest)
+      ∙ bind_at (condition_at most ((conditioned condition) ++ (((targeted (name, address, value))) ++ rest))) (λ condition. target_at most condition.1 >>= λ target. Some (stmt.StoreIf condition.0 target.0.0 target.0.1 target.0.2, target.1)) (condition, (((targeted (name, address, value))) ++ rest)) (condition_reader.again condition (((targeted (name, address, value))) ++ rest) (omega (arith, good)) tt)
+      ∙ bind_at (target_at most ((targeted (name, address, value)) ++ rest)) (λ target. Some (stmt.StoreIf condition target.0.0 target.0.1 target.0.2, target.1)) ((name, address, value), rest) (target_reader.again (name, address, value) rest (omega (arith, good), omega (arith, good)) tt)
 
   pub assign_reader : IsReader (assign_at most) assign_tokens IsAssign (λ _. Unit {0})
   assign_reader = record { takes = assign_takes; again = λ a rest good next. assign_again a rest good }
@@ -256,7 +256,7 @@ module _ (most : ℕ) where
     where
       again : (s : Stmt) (rest : List Token) → IsStmt s → Unit {0} → stmt_at most (stmt_tokens s ++ rest) ≡ Some (s, rest)
       again (stmt.Store name value) rest good next = store_again name value rest good
-      again (stmt.StoreIf condition name place value) rest good next = store_if_again condition name place value rest good
+      again (stmt.StoreIf condition name address value) rest good next = store_if_again condition name address value rest good
 
   stmts_take : (n : ℕ) (ts : List Token) (x : List Stmt × List Token) → many_at goes_on (stmt_at most) n ts ≡ Some x → Taken (flat_map stmt_tokens) (AllByRecursion IsStmt) ts x
   stmts_take = many_takes goes_on (stmt_at most) stmt_tokens IsStmt (λ _. Unit {0}) stmt_reader

@@ -18,12 +18,12 @@ use Rattle.lg_vtree.specs.declared.expr.Operator.{Operator}
 use Rattle.lg_vtree.specs.declared.expr.Operator.TheVariants as operator
 use Rattle.lg_vtree.specs.declared.expr.Expr.{Expr, roll-Expr, out-Expr, roll-out-Expr}
 use Rattle.lg_vtree.specs.declared.expr.Expr.TheOpen.{Expr-F}
-use Rattle.lg_vtree.specs.declared.expr.Expr.TheVariants.{rolls-Const, rolls-Whole, rolls-Place, rolls-Part, rolls-Item, rolls-Join, rolls-Not, rolls-Binary, rolls-Choice}
+use Rattle.lg_vtree.specs.declared.expr.Expr.TheVariants.{rolls-Const, rolls-Whole, rolls-Bit, rolls-Part, rolls-Item, rolls-Join, rolls-Not, rolls-Binary, rolls-Choice}
 use Rattle.lg_vtree.specs.Printed.{operator_text}
 use Rattle.lg_vtree.specs.Grammar.{Token, Fixed, Named, range_tokens, expr_tokens, direction_token, port_tokens, ports_tokens, decl_tokens, fill_tokens, word_tokens, init_tokens, assign_tokens, edge_token, stmt_tokens, edge_tokens, module_tokens}
 use Rattle.lg_vtree.specs.Depth.{greatest, depth}
 use Rattle.lg_vread.specs.Lexing.{is_angle, begins, is_fixed}
-use Rattle.lg_vtree.proofs.Unrolled.{tokens-roll, tokens-Const, tokens-Whole, tokens-Place, tokens-Part, tokens-Item, tokens-Not, tokens-Binary, tokens-Choice, depth-Item, depth-Join, depth-Not, depth-Binary, depth-Choice, others_tokens, join_spelled, some_depth}
+use Rattle.lg_vtree.proofs.Unrolled.{tokens-roll, tokens-Const, tokens-Whole, tokens-Bit, tokens-Part, tokens-Item, tokens-Not, tokens-Binary, tokens-Choice, depth-Item, depth-Join, depth-Not, depth-Binary, depth-Choice, others_tokens, join_spelled, some_depth}
 
 abbrev pub is_plain : Token → Bool
 is_plain (Fixed word) = is_fixed word
@@ -50,7 +50,7 @@ behind_angle ts f e = ap (λ b. not b && is_safe ts) f ∙ e
 starts-form : (f : Expr-F Expr) (rest : List Token) → first_angles (expr_tokens (roll-Expr f) ++ rest) ≡ false
 starts-form (Expr-F.Const c) rest = ap (λ t. first_angles (t ++ rest)) (tokens-roll (Expr-F.Const c) (roll-Expr (Expr-F.Const c)) refl)
 starts-form (Expr-F.Whole name) rest = ap (λ t. first_angles (t ++ rest)) (tokens-roll (Expr-F.Whole name) (roll-Expr (Expr-F.Whole name)) refl)
-starts-form (Expr-F.Place name place) rest = ap (λ t. first_angles (t ++ rest)) (tokens-roll (Expr-F.Place name place) (roll-Expr (Expr-F.Place name place)) refl)
+starts-form (Expr-F.Bit name index) rest = ap (λ t. first_angles (t ++ rest)) (tokens-roll (Expr-F.Bit name index) (roll-Expr (Expr-F.Bit name index)) refl)
 starts-form (Expr-F.Part name high low) rest = ap (λ t. first_angles (t ++ rest)) (tokens-roll (Expr-F.Part name high low) (roll-Expr (Expr-F.Part name high low)) refl)
 starts-form (Expr-F.Item name e) rest = ap (λ t. first_angles (t ++ rest)) (tokens-roll (Expr-F.Item name e) (roll-Expr (Expr-F.Item name e)) refl)
 starts-form (Expr-F.Join a b more) rest = ap (λ t. first_angles (t ++ rest)) (tokens-roll (Expr-F.Join a b more) (roll-Expr (Expr-F.Join a b more)) refl)
@@ -95,7 +95,7 @@ module _ (n : ℕ) (inner : (e : Expr) → depth e ≤ n → KeepsSafe (expr_tok
   form_safe : (f : Expr-F Expr) → Safely (roll-Expr f)
   form_safe (Expr-F.Const c) = subst Safely (sym (rolls-Const c)) (λ deep rest e. ap (λ t. is_safe (t ++ rest)) (tokens-Const c) ∙ e)
   form_safe (Expr-F.Whole name) = subst Safely (sym (rolls-Whole name)) (λ deep rest e. ap (λ t. is_safe (t ++ rest)) (tokens-Whole name) ∙ e)
-  form_safe (Expr-F.Place name place) = subst Safely (sym (rolls-Place name place)) (λ deep rest e. ap (λ t. is_safe (t ++ rest)) (tokens-Place name place) ∙ e)
+  form_safe (Expr-F.Bit name index) = subst Safely (sym (rolls-Bit name index)) (λ deep rest e. ap (λ t. is_safe (t ++ rest)) (tokens-Bit name index) ∙ e)
   form_safe (Expr-F.Part name high low) = subst Safely (sym (rolls-Part name high low)) (λ deep rest e. ap (λ t. is_safe (t ++ rest)) (tokens-Part name high low) ∙ e)
   form_safe (Expr-F.Item name x) = subst Safely (sym (rolls-Item name x)) (λ deep rest e.
       ap (λ t. is_safe (t ++ rest)) (tokens-Item name x) ∙ ap is_safe (append_assoc (expr_tokens x) (Fixed (codes "]") ∷ []) rest) ∙ inner x (omega (arith, deep, depth-Item name x)) (Fixed (codes "]") ∷ rest) e)
@@ -164,13 +164,13 @@ value_safe v rest e =
 
 stmt_safe : (s : Stmt) → KeepsSafe (stmt_tokens s)
 stmt_safe (stmt.Store name value) rest e = value_safe value rest e
-stmt_safe (stmt.StoreIf condition name place value) rest e =
+stmt_safe (stmt.StoreIf condition name address value) rest e =
     let last : List Token = expr_tokens value ++ Fixed (codes ";") ∷ [] in
-    let middle : List Token = expr_tokens place ++ Fixed (codes "]") ∷ Fixed (codes "<=") ∷ last in
+    let middle : List Token = expr_tokens address ++ Fixed (codes "]") ∷ Fixed (codes "<=") ∷ last in
     ap is_safe (append_assoc (expr_tokens condition) (Fixed (codes ")") ∷ Named name ∷ Fixed (codes "[") ∷ middle) rest)
     ∙ expr_safe condition (Fixed (codes ")") ∷ Named name ∷ Fixed (codes "[") ∷ (middle ++ rest)) (
-    ap is_safe (append_assoc (expr_tokens place) (Fixed (codes "]") ∷ Fixed (codes "<=") ∷ last) rest)
-    ∙ expr_safe place (Fixed (codes "]") ∷ Fixed (codes "<=") ∷ (last ++ rest)) (value_safe value rest e)
+    ap is_safe (append_assoc (expr_tokens address) (Fixed (codes "]") ∷ Fixed (codes "<=") ∷ last) rest)
+    ∙ expr_safe address (Fixed (codes "]") ∷ Fixed (codes "<=") ∷ (last ++ rest)) (value_safe value rest e)
     )
 
 edge_safe : (e : Option Edge) → KeepsSafe (edge_tokens e)

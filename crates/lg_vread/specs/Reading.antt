@@ -132,30 +132,30 @@ join_at inner ts = do
   Some (expr.Join first.0 second.0 more.0, end)
 
 -- after a name, `[` and a number
-unfoldable pub place_at : List ℕ → ℕ → List Token → Option (Expr × List Token)
-place_at name number ts = if is_at (codes ":") ts then (do
+unfoldable pub bits_at : List ℕ → ℕ → List Token → Option (Expr × List Token)
+bits_at name number ts = if is_at (codes ":") ts then (do
   low ← number_at (tail ts)
   end ← after (codes "]") low.1
   Some (expr.Part name number low.0, end)) else (do
     end ← after (codes "]") ts
-    Some (expr.Place name number, end))
+    Some (expr.Bit name number, end))
 
 -- after a name and `[`, no number
 unfoldable pub item_at : (List Token → Option (Expr × List Token)) → List ℕ → List Token → Option (Expr × List Token)
 item_at inner name ts = do
-  place ← inner ts
-  end ← after (codes "]") place.1
-  Some (expr.Item name place.0, end)
+  address ← inner ts
+  end ← after (codes "]") address.1
+  Some (expr.Item name address.0, end)
 
 -- after a name and `[`
-unfoldable pub index_at : (List Token → Option (Expr × List Token)) → List ℕ → List Token → Option (Expr × List Token)
-index_at inner name (Number number ∷ ts) = place_at name number ts
-index_at inner name ts = item_at inner name ts
+unfoldable pub select_at : (List Token → Option (Expr × List Token)) → List ℕ → List Token → Option (Expr × List Token)
+select_at inner name (Number number ∷ ts) = bits_at name number ts
+select_at inner name ts = item_at inner name ts
 
 -- an expression that begins with a name
 unfoldable pub named_at : (List Token → Option (Expr × List Token)) → List Token → Option (Expr × List Token)
 named_at inner ts =
-    name_at ts >>= λ name. if is_at (codes "[") name.1 then index_at inner name.0 (tail name.1) else Some (expr.Whole name.0, name.1)
+    name_at ts >>= λ name. if is_at (codes "[") name.1 then select_at inner name.0 (tail name.1) else Some (expr.Whole name.0, name.1)
 
 -- an expression that does not begin with a sign
 unfoldable pub plain_at : (List Token → Option (Expr × List Token)) → List Token → Option (Expr × List Token)
@@ -316,10 +316,10 @@ unfoldable pub word_at : List Token → Option (Word × List Token)
 word_at ts = do
   name ← name_at ts
   bracket ← after (codes "[") name.1
-  place ← number_at bracket
-  close ← after (codes "]") place.1
+  address ← number_at bracket
+  close ← after (codes "]") address.1
   value ← value_at close
-  Some (record { name = name.0; place = place.0; value = value.0 }, value.1)
+  Some (record { name = name.0; address = address.0; value = value.0 }, value.1)
 
 -- the end of a block does not come
 abbrev pub goes_on : List Token → Bool
@@ -377,15 +377,15 @@ condition_at most ts = do
   end ← after (codes ")") condition.1
   Some (condition.0, end)
 
--- `name[place] <= value;`
+-- `name[address] <= value;`
 unfoldable pub target_at : ℕ → List Token → Option ((List ℕ × Expr × Expr) × List Token)
 target_at most ts = do
   name ← name_at ts
   bracket ← after (codes "[") name.1
-  place ← expr_at most bracket
-  close ← after (codes "]") place.1
+  address ← expr_at most bracket
+  close ← after (codes "]") address.1
   value ← stored_at most close
-  Some ((name.0, place.0, value.0), value.1)
+  Some ((name.0, address.0, value.0), value.1)
 
 -- after `if`
 unfoldable pub store_if_at : ℕ → List Token → Option (Stmt × List Token)

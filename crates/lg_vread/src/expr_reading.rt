@@ -2,7 +2,7 @@
 
 ghost use Rattle.std.specs.Prelude.{◌≡◌, IsTrue, IfOk, codes};
 ghost use Rattle.lg_vread.specs.Lexing.{left, is_fixed};
-ghost use Rattle.lg_vread.specs.Reading.{Gives, is_at, all_at, expr_at, before_at, paren_at, choice_at, binary_at, join_at, other_at, plain_at, place_at};
+ghost use Rattle.lg_vread.specs.Reading.{Gives, is_at, all_at, expr_at, before_at, paren_at, choice_at, binary_at, join_at, other_at, plain_at, bits_at};
 
 use crate::fault::ReadFault;
 use crate::reader::Reader;
@@ -107,7 +107,7 @@ impl<'a> Reader<'a> {
 
     /// A constant, or what begins with a name.
     #[cycle(expr)]
-    #[tactic(auto, unfolding(crate::specs::Reading::plain_at, crate::specs::Reading::named_at, crate::specs::Reading::index_at, crate::specs::Reading::item_at))]
+    #[tactic(auto, unfolding(crate::specs::Reading::plain_at, crate::specs::Reading::named_at, crate::specs::Reading::select_at, crate::specs::Reading::item_at))]
     fn plain(&mut self, alloc: Global, depth: usize) -> Result<Expr, ReadFault>
         ensures { Gives result (left self.new) (plain_at (expr_at depth) (left self.old)) }
     {
@@ -118,25 +118,25 @@ impl<'a> Reader<'a> {
         if !self.take("[") {
             return Ok(Expr::Whole(name));
         }
-        if let Some(place) = self.try_number() {
-            return self.place(name, place);
+        if let Some(number) = self.try_number() {
+            return self.bits(name, number);
         }
-        let place = self.expr_before(alloc, depth, "]")?;
-        Ok(Expr::Item(name, Boxed::new(alloc, place)?))
+        let address = self.expr_before(alloc, depth, "]")?;
+        Ok(Expr::Item(name, Boxed::new(alloc, address)?))
     }
 
     /// After a name, `[` and a number.
-    #[tactic(auto, unfolding(crate::specs::Reading::place_at))]
-    fn place(&mut self, name: Name, place: u128) -> Result<Expr, ReadFault>
-        ensures { Gives result (left self.new) (place_at name place (left self.old)) }
+    #[tactic(auto, unfolding(crate::specs::Reading::bits_at))]
+    fn bits(&mut self, name: Name, number: u128) -> Result<Expr, ReadFault>
+        ensures { Gives result (left self.new) (bits_at name number (left self.old)) }
     {
         if !self.take(":") {
             self.expect("]")?;
-            return Ok(Expr::Place(name, place));
+            return Ok(Expr::Bit(name, number));
         }
         let low = self.number()?;
         self.expect("]")?;
-        Ok(Expr::Part(name, place, low))
+        Ok(Expr::Part(name, number, low))
     }
 }
 

@@ -145,9 +145,13 @@ impl<'a> Reader<'a> {
     {
         let name = self.name(alloc)?;
         self.expect("[")?;
-        let place = self.number()?;
+        let address = self.number()?;
         self.expect("]")?;
         let value = self.value()?;
-        Ok(Word { name, place, value })
+        Ok(Word {
+            name,
+            address,
+            value,
+        })
     }
 }

@@ -179,13 +179,13 @@ impl<'a> Reader<'a> {
         let condition = self.condition(alloc, depth)?;
         let name = self.name(alloc)?;
         self.expect("[")?;
-        let place = self.expr(alloc, depth)?;
+        let address = self.expr(alloc, depth)?;
         self.expect("]")?;
         let value = self.stored(alloc, depth)?;
         Ok(Stmt::StoreIf {
             condition,
             name,
-            place,
+            address,
             value,
         })
     }

@@ -11,7 +11,7 @@ use Rattle.lg_vtree.proofs.Unrolled.{some_depth}
 abbrev pub parts : Expr-F Expr → List Expr
 parts (Expr-F.Const c) = []
 parts (Expr-F.Whole name) = []
-parts (Expr-F.Place name place) = []
+parts (Expr-F.Bit name index) = []
 parts (Expr-F.Part name high low) = []
 parts (Expr-F.Item name e) = e ∷ []
 parts (Expr-F.Join a b more) = a ∷ b ∷ more
@@ -23,7 +23,7 @@ module _ (P : Expr → Type 0) (by_form : (f : Expr-F Expr) → AllByRecursion P
   of_parts : (n : ℕ) → ((e : Expr) → depth e ≤ n → P e) → (f : Expr-F Expr) → form_depth (map-Expr Expr ℕ depth f) ≤ suc n → AllByRecursion P (parts f)
   of_parts n inner (Expr-F.Const c) deep = tt
   of_parts n inner (Expr-F.Whole name) deep = tt
-  of_parts n inner (Expr-F.Place name place) deep = tt
+  of_parts n inner (Expr-F.Bit name index) deep = tt
   of_parts n inner (Expr-F.Part name high low) deep = tt
   of_parts n inner (Expr-F.Item name e) deep = (inner e (omega arith), tt)
   of_parts n inner (Expr-F.Join a b more) deep = (inner a (omega arith), (inner b (omega arith), all more (omega arith)))

@@ -72,19 +72,19 @@ constant_parts c test =
     let second = others.1 in
     (search rules, search rules)
 
--- the places of a part stand in order, below the width
-pub part_places : (width high low : ℕ) → (nat_lt 1 width && (nat_le low high && nat_lt high width)) ≡ true → (low ≤ high) × (high < width)
-part_places width high low test =
+-- the indexes of a part stand in order, below the width
+pub part_indexes : (width high low : ℕ) → (nat_lt 1 width && (nat_le low high && nat_lt high width)) ≡ true → (low ≤ high) × (high < width)
+part_indexes width high low test =
     let several = both (nat_lt 1 width) (nat_le low high && nat_lt high width) test in
     let others = both (nat_le low high) (nat_lt high width) several.1 in
     let first = others.0 in
     let second = others.1 in
     (search rules, search rules)
 
-word_within : (words : List ℕ) (place k : ℕ) → AllByRecursion (λ word. word < 2 ^ k) words → slice_index_or words place 0 < 2 ^ k
-word_within [] place k all = pow_pos k
+word_within : (words : List ℕ) (address k : ℕ) → AllByRecursion (λ word. word < 2 ^ k) words → slice_index_or words address 0 < 2 ^ k
+word_within [] address k all = pow_pos k
 word_within (word ∷ words) zero k all = all.0
-word_within (word ∷ words) (suc place) k all = word_within words place k all.1
+word_within (word ∷ words) (suc address) k all = word_within words address k all.1
 
 pub join_within : (x y : ℕ) (p q : ℕ × ℕ) → x + y ≤ 128 → IsWithin x p → IsWithin y q → IsWithin (x + y) (joined p q)
 join_within x y p q narrow high low = record {
@@ -173,17 +173,17 @@ module _ (width : List ℕ → ℕ) (words : List ℕ → List ℕ) (v : Valuati
   fits_form (Expr-F.Whole name) fits w e each =
       let same : width name ≡ w = cc in
       subst (λ n. IsWithin n (width name, v name)) same (record { wide = refl; narrow = narrow name; within = at_one Small name each })
-  fits_form (Expr-F.Place name place) fits w e each =
-      within_where (nat_lt 1 (width name) && nat_lt place (width name)) 1 w (1, bit_at (v name) place) e (λ test. record { wide = refl; narrow = omega arith; within = bit_at-lt (v name) place })
+  fits_form (Expr-F.Bit name index) fits w e each =
+      within_where (nat_lt 1 (width name) && nat_lt index (width name)) 1 w (1, bit_at (v name) index) e (λ test. record { wide = refl; narrow = omega arith; within = bit_at-lt (v name) index })
   fits_form (Expr-F.Part name high low) fits w e each =
       within_where (nat_lt 1 (width name) && (nat_le low high && nat_lt high (width name))) (high + 1 - low) w (high + 1 - low, (v name / 2 ^ low) % 2 ^ (high + 1 - low)) e (λ test.
-      let places = part_places (width name) high low test in
-      record { wide = refl; narrow = omega (arith, narrow name, places.1); within = mod-lt (v name / 2 ^ low) (pow_pos (high + 1 - low)) })
-  fits_form (Expr-F.Item name e) fits w is_width each = by_place (expr_width width e) is_width
+      let indexes = part_indexes (width name) high low test in
+      record { wide = refl; narrow = omega (arith, narrow name, indexes.1); within = mod-lt (v name / 2 ^ low) (pow_pos (high + 1 - low)) })
+  fits_form (Expr-F.Item name e) fits w is_width each = by_address (expr_width width e) is_width
     where
-      by_place : (o : Option ℕ) → option_map (λ (place : ℕ). width name) o ≡ Some w → IsWithin w (width name, slice_index_or (words name) (sized width words v e).1 0)
-      by_place None none = absurd cc
-      by_place (Some place) some =
+      by_address : (o : Option ℕ) → option_map (λ (address : ℕ). width name) o ≡ Some w → IsWithin w (width name, slice_index_or (words name) (sized width words v e).1 0)
+      by_address None none = absurd cc
+      by_address (Some address) some =
           let same : width name ≡ w = cc in
           subst (λ n. IsWithin n (width name, slice_index_or (words name) (sized width words v e).1 0)) same
           (record { wide = refl; narrow = narrow name; within = word_within (words name) (sized width words v e).1 (width name) (words_within name) })

@@ -22,11 +22,11 @@ at_none : (P : List ℕ → Type 0) → AtEach P []
 at_none P other (k, here, same) = absurd (omega (arith, here))
 
 at_both : (P : List ℕ → Type 0) (some others : List (List ℕ)) → AtEach P some → AtEach P others → AtEach P (some ++ others)
-at_both P some others first second name here = by_place (Contains-append_cases some others name here)
+at_both P some others first second name here = by_side (Contains-append_cases some others name here)
   where
-    by_place : Contains some name ⊎ Contains others name → P name
-    by_place (inl h) = first name h
-    by_place (inr h) = second name h
+    by_side : Contains some name ⊎ Contains others name → P name
+    by_side (inl h) = first name h
+    by_side (inr h) = second name h
 
 module _ (sort : List ℕ → Option Sort) where
   abbrev Readable : List ℕ → Type 0
@@ -45,7 +45,7 @@ module _ (sort : List ℕ → Option Sort) where
       → AtEach Readable (form_names (map-Expr Expr (List (List ℕ)) names_read f))
   readable_form (Expr-F.Const c) inner reads = at_none Readable
   readable_form (Expr-F.Whole name) inner reads = at_itself Readable name reads
-  readable_form (Expr-F.Place name place) inner reads = at_itself Readable name reads
+  readable_form (Expr-F.Bit name index) inner reads = at_itself Readable name reads
   readable_form (Expr-F.Part name high low) inner reads = at_itself Readable name reads
   readable_form (Expr-F.Item name e) inner reads = inner.0 (both (is_of is_memory sort name) (reads_declared sort e) reads).1
   readable_form (Expr-F.Join a b more) inner reads =

@@ -63,7 +63,7 @@ module _ (width : List ℕ → ℕ) (words : List ℕ → List ℕ) (v w : Valua
       → form_number width words v (map-Expr Expr (ℕ × ℕ) (sized width words v) f) ≡ form_number width words w (map-Expr Expr (ℕ × ℕ) (sized width words w) f)
   same_form (Expr-F.Const c) same each = refl
   same_form (Expr-F.Whole name) same each = ap (λ n. (width name, n)) (at_one Agree name each)
-  same_form (Expr-F.Place name place) same each = ap (λ n. (1, bit_at n place)) (at_one Agree name each)
+  same_form (Expr-F.Bit name index) same each = ap (λ n. (1, bit_at n index)) (at_one Agree name each)
   same_form (Expr-F.Part name high low) same each = ap (λ n. (high + 1 - low, (n / 2 ^ low) % 2 ^ (high + 1 - low))) (at_one Agree name each)
   same_form (Expr-F.Item name e) same each = ap (λ (p : ℕ × ℕ). (width name, slice_index_or (words name) p.1 0)) (same.0 each)
   same_form (Expr-F.Join a b more) same each =

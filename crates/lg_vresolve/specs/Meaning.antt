@@ -9,7 +9,7 @@ use Rattle.lg_vtree.specs.declared.expr.Expr.TheOpen.{Expr-F}
 use Rattle.lg_vtree.specs.declared.module.Module.{Module}
 use Rattle.lg_vrules.specs.Things.{width_of, names_of, is_memory}
 use Rattle.lg_vrules.specs.Rules.{operator_width}
-use Rattle.lg_vrules.specs.Places.{place_from}
+use Rattle.lg_vrules.specs.Indexes.{index_from}
 use Rattle.lg_vmachine.specs.Kept.{Kept}
 use Rattle.lg_vmachine.specs.Terms.{number_of_test}
 
@@ -36,15 +36,15 @@ operator_value operator.ShiftRight width a b = a / 2 ^ b
 abbrev pub joined : ℕ × ℕ → ℕ × ℕ → ℕ × ℕ
 joined high low = (high.0 + low.0, high.1 * 2 ^ low.0 + low.1)
 
--- the words of a memory: those at its place among the memories
+-- the words of a memory: those at its index among the memories
 abbrev pub memory_words : Module → Kept → List ℕ → List ℕ
-memory_words m kept name = unwrap_or (option_and_then (slice_get kept.memories) (place_from 0 (names_of is_memory m) name)) []
+memory_words m kept name = unwrap_or (option_and_then (slice_get kept.memories) (index_from 0 (names_of is_memory m) name)) []
 
 -- the width and the number of an expression from those of its parts
 abbrev pub form_number : (List ℕ → ℕ) → (List ℕ → List ℕ) → Valuation → Expr-F (ℕ × ℕ) → ℕ × ℕ
 form_number width words value (Expr-F.Const c) = (c.width, c.value)
 form_number width words value (Expr-F.Whole name) = (width name, value name)
-form_number width words value (Expr-F.Place name place) = (1, bit_at (value name) place)
+form_number width words value (Expr-F.Bit name index) = (1, bit_at (value name) index)
 form_number width words value (Expr-F.Part name high low) = (high + 1 - low, (value name / 2 ^ low) % 2 ^ (high + 1 - low))
 form_number width words value (Expr-F.Item name e) = (width name, slice_index_or (words name) e.1 0)
 form_number width words value (Expr-F.Join a b more) = fold joined (joined a b) more

@@ -1,4 +1,4 @@
-//! The number of an expression, and expressions turned into terms over places.
+//! The number of an expression, and expressions turned into terms over indexes.
 #![tactic(auto)]
 
 mod resolve;

@@ -2,11 +2,11 @@
 
 ghost use Rattle.std.specs.Prelude.{◌≡◌, map, fold, IfOk};
 ghost use Rattle.lg_vrules.specs.Known.{width_under, AreNarrow};
-ghost use Rattle.lg_vrules.specs.Places.{place_under};
-ghost use Rattle.lg_vresolve.specs.Resolved.{resolved, resolved_join, resolved_part, resolved_not, resolved_binary, resolved_choice, place_or_0, IsTermOf};
+ghost use Rattle.lg_vrules.specs.Indexes.{index_under};
+ghost use Rattle.lg_vresolve.specs.Resolved.{resolved, resolved_join, resolved_part, resolved_not, resolved_binary, resolved_choice, index_or_0, IsTermOf};
 
 use lg_vmachine::Term;
-use lg_vrules::{NameIndex, Places, operator_width};
+use lg_vrules::{Indexes, NameIndex, operator_width};
 use lg_vtree::{Expr, Memory, Name, Operator};
 use sqlite_items::Boxed;
 use std::alloc::{AllocError, Global};
@@ -18,20 +18,20 @@ pub struct Resolved {
     pub width: u128,
 }
 
-/// What the names in expressions stand for: their widths, the places of numbers, and those of memories.
+/// What the names in expressions stand for: their widths, the indexes of numbers, and those of memories.
 #[derive(Clone, Copy)]
 pub struct Resolver<'a> {
     pub names: &'a NameIndex,
-    pub numbers: &'a Places,
-    pub memories: &'a Places,
+    pub numbers: &'a Indexes,
+    pub memories: &'a Indexes,
 }
 
 impl<'a> Resolver<'a> {
-    /// The term of an expression. A name without a place would have the place 0: expressions of a valid module have none.
+    /// The term of an expression. A name without an index would have the index 0: expressions of a valid module have none.
     pub fn resolve(&self, alloc: Global, expr: &Expr) -> Result<Resolved, Memory>
         requires { AreNarrow self.now.names.now }
-        ensures term { IfOk result (λ r. r ≡ resolved (width_under self.now.names.now) (place_under self.now.numbers.now) (place_under self.now.memories.now) expr.now) }
-        ensures number { IfOk result (IsTermOf self.now.names.now (place_under self.now.numbers.now) (place_under self.now.memories.now) expr.now) }
+        ensures term { IfOk result (λ r. r ≡ resolved (width_under self.now.names.now) (index_under self.now.numbers.now) (index_under self.now.memories.now) expr.now) }
+        ensures number { IfOk result (IsTermOf self.now.names.now (index_under self.now.numbers.now) (index_under self.now.memories.now) expr.now) }
     {
         self.turn(alloc, expr)
     }
@@ -40,7 +40,7 @@ impl<'a> Resolver<'a> {
     #[cycle(turn)]
     fn turn(&self, alloc: Global, expr: &Expr) -> Result<Resolved, Memory>
         requires { AreNarrow self.now.names.now }
-        ensures { IfOk result (λ r. r ≡ resolved (width_under self.now.names.now) (place_under self.now.numbers.now) (place_under self.now.memories.now) expr.now) }
+        ensures { IfOk result (λ r. r ≡ resolved (width_under self.now.names.now) (index_under self.now.numbers.now) (index_under self.now.memories.now) expr.now) }
     {
         match expr {
             Expr::Const(constant) => Ok(Resolved {
@@ -48,15 +48,15 @@ impl<'a> Resolver<'a> {
                 width: constant.width,
             }),
             Expr::Whole(name) => Ok(Resolved {
-                term: Term::Number(self.place(name)),
+                term: Term::Number(self.index(name)),
                 width: self.names.width_of(name),
             }),
-            Expr::Place(name, place) => Ok(self.part(name, *place, *place)),
+            Expr::Bit(name, index) => Ok(self.part(name, *index, *index)),
             Expr::Part(name, high, low) => Ok(self.part(name, *high, *low)),
-            Expr::Item(name, place) => {
-                let place = self.turn(alloc, place.get())?;
+            Expr::Item(name, address) => {
+                let address = self.turn(alloc, address.get())?;
                 Ok(Resolved {
-                    term: Term::Item(self.memory(name), Boxed::new(alloc, place.term)?),
+                    term: Term::Item(self.memory(name), Boxed::new(alloc, address.term)?),
                     width: self.names.width_of(name),
                 })
             }
@@ -85,7 +85,7 @@ impl<'a> Resolver<'a> {
     #[cycle(turn)]
     fn join_all(&self, alloc: Global, high: Resolved, exprs: &[Expr]) -> Result<Resolved, Memory>
         requires { AreNarrow self.now.names.now }
-        ensures { IfOk result (λ r. r ≡ fold resolved_join high (map (resolved (width_under self.now.names.now) (place_under self.now.numbers.now) (place_under self.now.memories.now)) exprs.now)) }
+        ensures { IfOk result (λ r. r ≡ fold resolved_join high (map (resolved (width_under self.now.names.now) (index_under self.now.numbers.now) (index_under self.now.memories.now)) exprs.now)) }
     {
         let mut joined = high;
         for expr in exprs {
@@ -97,12 +97,12 @@ impl<'a> Resolver<'a> {
 
     // Some bits of a name.
     fn part(&self, name: &Name, high: u128, low: u128) -> Resolved
-        ensures { result ≡ resolved_part (place_or_0 (place_under self.now.numbers.now) name.now) high low }
+        ensures { result ≡ resolved_part (index_or_0 (index_under self.now.numbers.now) name.now) high low }
     {
         let width = high.saturating_sub(low).saturating_add(1);
         Resolved {
             term: Term::Part {
-                place: self.place(name),
+                index: self.index(name),
                 low,
                 width,
             },
@@ -110,15 +110,15 @@ impl<'a> Resolver<'a> {
         }
     }
 
-    /// The place of a name's number.
-    pub fn place(&self, name: &Name) -> usize
-        ensures { result ≡ place_or_0 (place_under self.now.numbers.now) name.now }
+    /// The index of a name's number.
+    pub fn index(&self, name: &Name) -> usize
+        ensures { result ≡ index_or_0 (index_under self.now.numbers.now) name.now }
     {
         self.numbers.get(name.as_str()).unwrap_or(0)
     }
 
     fn memory(&self, name: &Name) -> usize
-        ensures { result ≡ place_or_0 (place_under self.now.memories.now) name.now }
+        ensures { result ≡ index_or_0 (index_under self.now.memories.now) name.now }
     {
         self.memories.get(name.as_str()).unwrap_or(0)
     }

@@ -19,7 +19,7 @@ module _ {X : Type 0} where
   abbrev pub GoesOn : List X → X → List X → Type 0
   GoesOn front x all = (more : List X) × (all ≡ front ++ x ∷ more)
 
-  -- two ways to cut one list at an item: at one place, or the first before the second, or the second before the first
+  -- two ways to cut one list at an item: at one index, or the first before the second, or the second before the first
   abbrev pub Cuts : List X → List X → X → X → Type 0
   Cuts front other x y = ((front ≡ other) × (x ≡ y)) ⊎ (GoesOn front x other ⊎ GoesOn other y front)
 

@@ -18,7 +18,7 @@ use Rattle.lg_vectors.specs.CaredBits.{CaredBits}
 use Rattle.lg_vectors.specs.Rows.{IsRowOf}
 use Rattle.lg_vmeaning.specs.Solution.{AreNumbers}
 use Rattle.lg_vrows.specs.Rows.{AreInputs, input_pin}
-use Rattle.lg_vrows.specs.Steps.{ArePlaces}
+use Rattle.lg_vrows.specs.Steps.{AreIndexes}
 use Rattle.lg_vrows.proofs.BoundLemmas.{column_of}
 use Rattle.lg_vrows.proofs.PortLemmas.{Line}
 
@@ -35,12 +35,12 @@ ones_all zero = All-nil (λ (bit : Bit). bit ≡ One)
 ones_all (suc width) = All-cons (λ (bit : Bit). bit ≡ One) One (replicate width One) refl (ones_all width)
 
 -- so many columns have given their numbers
-pub record AreInputsTo (done inputs : ℕ) (places : List ℕ) (row : List CaredBits) (numbers : List ℕ) : Type 0 where
+pub record AreInputsTo (done inputs : ℕ) (indexes : List ℕ) (row : List CaredBits) (numbers : List ℕ) : Type 0 where
   pub count : length numbers ≡ inputs
-  pub each : (column place : ℕ) (value : CaredBits) → column < done → slice_get places column ≡ Some place → slice_get row column ≡ Some value → slice_get numbers place ≡ Some (number_of value.bits)
+  pub each : (column index : ℕ) (value : CaredBits) → column < done → slice_get indexes column ≡ Some index → slice_get row column ≡ Some value → slice_get numbers index ≡ Some (number_of value.bits)
 
-pub none_done : (inputs : ℕ) (places : List ℕ) (row : List CaredBits) (numbers : List ℕ) → length numbers ≡ inputs → AreInputsTo 0 inputs places row numbers
-none_done inputs places row numbers count = record { count = count; each = λ column place value lt e f. absurd (omega (arith, lt)) }
+pub none_done : (inputs : ℕ) (indexes : List ℕ) (row : List CaredBits) (numbers : List ℕ) → length numbers ≡ inputs → AreInputsTo 0 inputs indexes row numbers
+none_done inputs indexes row numbers count = record { count = count; each = λ column index value lt e f. absurd (omega (arith, lt)) }
 
 -- an item that is set, and the others
 set_here : {X : Type 0} (xs : List X) (i : ℕ) (x : X) → i < length xs → slice_get (slice_set xs i x) i ≡ Some x
@@ -61,10 +61,10 @@ set_length (y ∷ xs) zero x = refl
 set_length (y ∷ xs) (suc i) x = ap suc (set_length xs i x)
 
 -- one column more gives its number
-pub one_done : (done inputs : ℕ) (places : List ℕ) (row : List CaredBits) (numbers : List ℕ) (place : ℕ) (value : CaredBits) → ArePlaces inputs places → slice_get places done ≡ Some place → slice_get row done ≡ Some value
-    → AreInputsTo done inputs places row numbers → AreInputsTo (done + 1) inputs places row (slice_set numbers place (number_of value.bits))
-one_done done inputs places row numbers place value are e f so = record {
-  count = set_length numbers place (number_of value.bits) ∙ so.count;
+pub one_done : (done inputs : ℕ) (indexes : List ℕ) (row : List CaredBits) (numbers : List ℕ) (index : ℕ) (value : CaredBits) → AreIndexes inputs indexes → slice_get indexes done ≡ Some index → slice_get row done ≡ Some value
+    → AreInputsTo done inputs indexes row numbers → AreInputsTo (done + 1) inputs indexes row (slice_set numbers index (number_of value.bits))
+one_done done inputs indexes row numbers index value are e f so = record {
+  count = set_length numbers index (number_of value.bits) ∙ so.count;
   each = λ column other wanted lt g h. step column other wanted lt g h (cases column lt);
 }
   where
@@ -74,23 +74,23 @@ one_done done inputs places row numbers place value are e f so = record {
       | inr past ↦ inr (omega (arith, lt, past))
     ]
 
-    step : (column other : ℕ) (wanted : CaredBits) → column < done + 1 → slice_get places column ≡ Some other → slice_get row column ≡ Some wanted → (column < done) ⊎ (column ≡ done)
-        → slice_get (slice_set numbers place (number_of value.bits)) other ≡ Some (number_of wanted.bits)
+    step : (column other : ℕ) (wanted : CaredBits) → column < done + 1 → slice_get indexes column ≡ Some other → slice_get row column ≡ Some wanted → (column < done) ⊎ (column ≡ done)
+        → slice_get (slice_set numbers index (number_of value.bits)) other ≡ Some (number_of wanted.bits)
     step column other wanted lt g h (inl before) =
-        let apart : place ≡ other → ⊥ = λ same. let here : column ≡ done = are.apart column done other g (e ∙ ap Some same) in absurd (omega (arith, here, before)) in
-        set_elsewhere numbers place other (number_of value.bits) apart ∙ so.each column other wanted before g h
+        let apart : index ≡ other → ⊥ = λ same. let here : column ≡ done = are.apart column done other g (e ∙ ap Some same) in absurd (omega (arith, here, before)) in
+        set_elsewhere numbers index other (number_of value.bits) apart ∙ so.each column other wanted before g h
     step column other wanted lt g h (inr here) =
-        let same : place ≡ other = same_Some place other (sym e ∙ (ap (slice_get places) (sym here) ∙ g)) in
+        let same : index ≡ other = same_Some index other (sym e ∙ (ap (slice_get indexes) (sym here) ∙ g)) in
         let values : value ≡ wanted = same_Some value wanted (sym f ∙ (ap (slice_get row) (sym here) ∙ h)) in
-        let below : place < length numbers = subst (λ (n : ℕ). place < n) (sym so.count) (are.below done place e) in
-        ap (slice_get (slice_set numbers place (number_of value.bits))) (sym same)
-        ∙ (set_here numbers place (number_of value.bits) below ∙ ap (λ (v : CaredBits). Some (number_of v.bits)) values)
+        let below : index < length numbers = subst (λ (n : ℕ). index < n) (sym so.count) (are.below done index e) in
+        ap (slice_get (slice_set numbers index (number_of value.bits))) (sym same)
+        ∙ (set_here numbers index (number_of value.bits) below ∙ ap (λ (v : CaredBits). Some (number_of v.bits)) values)
 
 -- all columns have
-pub all_done : (done inputs : ℕ) (places : List ℕ) (row : List CaredBits) (numbers : List ℕ) → ((column : ℕ) → column < length places → column < length row → column < done) → AreInputsTo done inputs places row numbers → AreInputs inputs places row numbers
-all_done done inputs places row numbers end so = record {
+pub all_done : (done inputs : ℕ) (indexes : List ℕ) (row : List CaredBits) (numbers : List ℕ) → ((column : ℕ) → column < length indexes → column < length row → column < done) → AreInputsTo done inputs indexes row numbers → AreInputs inputs indexes row numbers
+all_done done inputs indexes row numbers end so = record {
   count = so.count;
-  each = λ column place value e f. so.each column place value (end column (slice_get_within places column place e) (slice_get_within row column value f)) e f;
+  each = λ column index value e f. so.each column index value (end column (slice_get_within indexes column index e) (slice_get_within row column value f)) e f;
 }
 
 pub item_at : {X : Type 0} (xs : List X) (i : ℕ) → i < length xs → (x : X) × (slice_get xs i ≡ Some x)
@@ -128,17 +128,17 @@ fit_each (l ∷ all) (n ∷ numbers) count each =
     let first = each 0 l refl in
     (subst (λ (k : ℕ). k < 2 ^ l.1) (sym (same_Some n first.0 first.1)) first.2, fit_each all numbers (omega (arith, count)) (λ i other e. each (suc i) other e))
 
-module _ (pins : List PinShape) (columns : List Column) (places : List ℕ) (differ : IsDistinct bytes_eq (pin_names pins)) (bound : AreBound [] pins columns places) (whole : HaveColumns columns pins) where
+module _ (pins : List PinShape) (columns : List Column) (indexes : List ℕ) (differ : IsDistinct bytes_eq (pin_names pins)) (bound : AreBound [] pins columns indexes) (whole : HaveColumns columns pins) where
   -- the number of a pin
-  number_at : (row : List CaredBits) (numbers : List ℕ) → IsRowOf columns row → AreInputs (length pins) places row numbers → (i : ℕ) (pin : PinShape) → slice_get pins i ≡ Some pin
-      → (k : ℕ) × (value : CaredBits) × (slice_get places k ≡ Some i) × (slice_get row k ≡ Some value) × (length value.bits ≡ pin.width)
+  number_at : (row : List CaredBits) (numbers : List ℕ) → IsRowOf columns row → AreInputs (length pins) indexes row numbers → (i : ℕ) (pin : PinShape) → slice_get pins i ≡ Some pin
+      → (k : ℕ) × (value : CaredBits) × (slice_get indexes k ≡ Some i) × (slice_get row k ≡ Some value) × (length value.bits ≡ pin.width)
   number_at row numbers is are i pin e =
-      let c = column_of pins columns places differ bound whole i pin e in
+      let c = column_of pins columns indexes differ bound whole i pin e in
       let v = value_of columns row is c.0 c.1 c.2 in
       (c.0, v.0, c.3, v.1, v.2 ∙ c.4)
 
   -- the numbers that a row gives are the only ones
-  one_row : (row : List CaredBits) (numbers others : List ℕ) → IsRowOf columns row → AreInputs (length pins) places row numbers → AreInputs (length pins) places row others → numbers ≡ others
+  one_row : (row : List CaredBits) (numbers others : List ℕ) → IsRowOf columns row → AreInputs (length pins) indexes row numbers → AreInputs (length pins) indexes row others → numbers ≡ others
   one_row row numbers others is are again = same_lists numbers others (are.count ∙ sym again.count) each
     where
       each : (i : ℕ) → i < length numbers → slice_get numbers i ≡ slice_get others i
@@ -147,7 +147,7 @@ module _ (pins : List PinShape) (columns : List Column) (places : List ℕ) (dif
           let v = number_at row numbers is are i pin.0 pin.1 in
           are.each v.0 i v.1 v.2 v.3 ∙ sym (again.each v.0 i v.1 v.2 v.3)
 
-  pub one_rows : (rows : List (List CaredBits)) (inputs others : List (List ℕ)) → All (IsRowOf columns) rows → AllZip (AreInputs (length pins) places) rows inputs → AllZip (AreInputs (length pins) places) rows others → inputs ≡ others
+  pub one_rows : (rows : List (List CaredBits)) (inputs others : List (List ℕ)) → All (IsRowOf columns) rows → AllZip (AreInputs (length pins) indexes) rows inputs → AllZip (AreInputs (length pins) indexes) rows others → inputs ≡ others
   one_rows [] [] [] all are again = refl
   one_rows [] [] (o ∷ others) all are again = absurd again
   one_rows [] (n ∷ inputs) others all are again = absurd are
@@ -159,16 +159,16 @@ module _ (pins : List PinShape) (columns : List Column) (places : List ℕ) (dif
       λ i. first i ∷ rest i
 
 -- the numbers that rows give to inputs fit their widths
-module _ (ports : List Line) (columns : List Column) (places : List ℕ) (differ : IsDistinct bytes_eq (pin_names (map input_pin ports))) (bound : AreBound [] (map input_pin ports) columns places) (whole : HaveColumns columns (map input_pin ports)) where
-  row_fits : (row : List CaredBits) (numbers : List ℕ) → IsRowOf columns row → AreInputs (length (map input_pin ports)) places row numbers → AreNumbers ports numbers
+module _ (ports : List Line) (columns : List Column) (indexes : List ℕ) (differ : IsDistinct bytes_eq (pin_names (map input_pin ports))) (bound : AreBound [] (map input_pin ports) columns indexes) (whole : HaveColumns columns (map input_pin ports)) where
+  row_fits : (row : List CaredBits) (numbers : List ℕ) → IsRowOf columns row → AreInputs (length (map input_pin ports)) indexes row numbers → AreNumbers ports numbers
   row_fits row numbers is are = fit_each ports numbers (are.count ∙ length-map ports input_pin) each
     where
       each : (i : ℕ) (l : Line) → slice_get ports i ≡ Some l → (n : ℕ) × (slice_get numbers i ≡ Some n) × (n < 2 ^ l.1)
       each i l e =
-          let v = number_at (map input_pin ports) columns places differ bound whole row numbers is are i (input_pin l) (slice_get-map input_pin ports i ∙ ap (option_map input_pin) e) in
+          let v = number_at (map input_pin ports) columns indexes differ bound whole row numbers is are i (input_pin l) (slice_get-map input_pin ports i ∙ ap (option_map input_pin) e) in
           (number_of v.1.bits, are.each v.0 i v.1 v.2 v.3, subst (λ (w : ℕ). number_of v.1.bits < 2 ^ w) v.4 (number_of-lt v.1.bits))
 
-  pub rows_fit : (rows : List (List CaredBits)) (inputs : List (List ℕ)) → All (IsRowOf columns) rows → AllZip (AreInputs (length (map input_pin ports)) places) rows inputs → All (AreNumbers ports) inputs
+  pub rows_fit : (rows : List (List CaredBits)) (inputs : List (List ℕ)) → All (IsRowOf columns) rows → AllZip (AreInputs (length (map input_pin ports)) indexes) rows inputs → All (AreNumbers ports) inputs
   rows_fit [] [] all are = All-nil (AreNumbers ports)
   rows_fit [] (n ∷ inputs) all are = absurd are
   rows_fit (row ∷ rows) [] all are = absurd are

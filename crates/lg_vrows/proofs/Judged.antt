@@ -81,15 +81,15 @@ module _ (m : Module) (valid : IsValid m) (bytes : List ℕ) where
       inr (
         rows_fault.Undefined (length f.before + 1),
         λ e. absurd cc,
-        (given, record { before = f.before; row = f.here; after = f.after; parts = f.parts; place = refl; defined = f.have; undefined = f.lacks }),
+        (given, record { before = f.before; row = f.here; after = f.after; parts = f.parts; counted = refl; defined = f.have; undefined = f.lacks }),
       )
 
   module _ (columns : List Column) (rows : List (List CaredBits)) (says : IsVectorText bytes columns rows) where
     by_binding : length rows ≤ 65536
-        → ((places : List ℕ) × AreBound [] (input_pins m) columns places × HaveColumns columns (input_pins m))
+        → ((indexes : List ℕ) × AreBound [] (input_pins m) columns indexes × HaveColumns columns (input_pins m))
         ⊎ ((why : VectorFault) × (why ≢ vector.Memory) × (IsBindFault (input_pins m) columns why ⊎ IsMissing (input_pins m) columns why)) → HasRows
-    by_binding few (inl (places, bound, whole)) =
-        let given : AreBoundRows m bytes = record { columns = columns; rows = rows; says = says; few = few; places = places; bound = bound; whole = whole } in
+    by_binding few (inl (indexes, bound, whole)) =
+        let given : AreBoundRows m bytes = record { columns = columns; rows = rows; says = says; few = few; indexes = indexes; bound = bound; whole = whole } in
         by_definition given (all_or_first IsDefinedRow is_defined rows)
     by_binding few (inr (why, known, reason)) =
         no_vector why known (known, inr (record { columns = columns; rows = rows; says = says; few = few; reason = reason }))

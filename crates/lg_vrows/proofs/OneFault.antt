@@ -56,9 +56,9 @@ read_sound bytes columns rows fault p h says few = by_kind (read_kind bytes faul
 -- binding
 
 -- a pin's name is among those of pins
-pin_known : (pins : List PinShape) (place : ℕ) (pin : PinShape) (name : List ℕ) → slice_get pins place ≡ Some pin → pin.name ≡ name → has_name (pin_names pins) name ≡ true
-pin_known pins place pin name stands named =
-    any_passes_from_place (bytes_eq name) (pin_names pins) place pin.name (slice_get-map (λ (p : PinShape). p.name) pins place ∙ ap (option_map (λ (p : PinShape). p.name)) stands)
+pin_known : (pins : List PinShape) (index : ℕ) (pin : PinShape) (name : List ℕ) → slice_get pins index ≡ Some pin → pin.name ≡ name → has_name (pin_names pins) name ≡ true
+pin_known pins index pin name stands named =
+    any_passes_from_place (bytes_eq name) (pin_names pins) index pin.name (slice_get-map (λ (p : PinShape). p.name) pins index ∙ ap (option_map (λ (p : PinShape). p.name)) stands)
     ((bytes_eq-Decides name pin.name).1 (sym named))
 
 -- the one fault that a column can have
@@ -90,7 +90,7 @@ one_bind_fault pins columns fault other differ h k = by_cut (cut_twice h.before 
         absurd (bound_sound pins h.before h.places other differ h.bound (record { before = k.before; column = k.column; after = on.0; places = k.places; parts = on.1; bound = k.bound; bad = k.bad }))
 
 -- what is missing is the pin of a name
-missing_pin : (pins : List PinShape) (columns : List Column) (fault : VectorFault) → IsMissing pins columns fault → (name : List ℕ) × (fault ≡ vector.MissingPin name) × IsFirstWithout columns pins name × ((places : List ℕ) × AreBound [] pins columns places)
+missing_pin : (pins : List PinShape) (columns : List Column) (fault : VectorFault) → IsMissing pins columns fault → (name : List ℕ) × (fault ≡ vector.MissingPin name) × IsFirstWithout columns pins name × ((indexes : List ℕ) × AreBound [] pins columns indexes)
 missing_pin pins columns (vector.MissingPin name) h = (name, refl, h.1, h.0)
 missing_pin pins columns (vector.NotVector line) h = absurd h
 missing_pin pins columns (vector.NoPin name) h = absurd h

@@ -81,7 +81,7 @@ module _ (m : Module) (v w : Valuation) (agree : AgreeOn m v w) where
         step : (o : Option Stmt) → stmt_for m name ≡ o → number_after m kept v (name, old) ≡ number_after m kept w (name, old)
         step None e = rw e refl
         step (Some (stmt.Store other a)) e = let s = found_stmt m broken name (stmt.Store other a) e in rw e (number_same a s.1.reads)
-        step (Some (stmt.StoreIf condition other place a)) e = rw e refl
+        step (Some (stmt.StoreIf condition other address a)) e = rw e refl
 
     -- and in a memory
     memory_same : (name : List ℕ) (words : List ℕ) → words_after m kept v (name, words) ≡ words_after m kept w (name, words)
@@ -90,10 +90,10 @@ module _ (m : Module) (v w : Valuation) (agree : AgreeOn m v w) where
         step : (o : Option Stmt) → stmt_for m name ≡ o → words_after m kept v (name, words) ≡ words_after m kept w (name, words)
         step None e = rw e refl
         step (Some (stmt.Store other a)) e = rw e refl
-        step (Some (stmt.StoreIf condition other place a)) e =
-            let s = found_stmt m broken name (stmt.StoreIf condition other place a) e in
+        step (Some (stmt.StoreIf condition other address a)) e =
+            let s = found_stmt m broken name (stmt.StoreIf condition other address a) e in
             let test = number_same condition s.1.reads in
-            let at = number_same place s.2.1.reads in
+            let at = number_same address s.2.1.reads in
             let word = number_same a s.3.reads in
             rw (e, test, at, word) refl
 

@@ -28,21 +28,21 @@ module _ (m : Module) (valid : IsValid m) (bytes : List ℕ) where
   rows_same : (g h : AreBoundRows m bytes) → (g.columns ≡ h.columns) × (g.rows ≡ h.rows)
   rows_same g h = one_vector bytes g.columns h.columns g.rows h.rows g.says h.says
 
-  places_same : (g h : AreBoundRows m bytes) → g.places ≡ h.places
-  places_same g h =
-      one_binding [] (input_pins m) g.columns g.places h.places (pins_differ m valid) g.bound
-      (subst (λ (columns : List Column). AreBound [] (input_pins m) columns h.places) (sym (rows_same g h).0) h.bound)
+  indexes_same : (g h : AreBoundRows m bytes) → g.indexes ≡ h.indexes
+  indexes_same g h =
+      one_binding [] (input_pins m) g.columns g.indexes h.indexes (pins_differ m valid) g.bound
+      (subst (λ (columns : List Column). AreBound [] (input_pins m) columns h.indexes) (sym (rows_same g h).0) h.bound)
 
   -- and have one list of outputs
   outs_same : (outs other : List (List ℕ)) → AreOutputsOf m bytes outs → AreOutputsOf m bytes other → outs ≡ other
   outs_same outs other a b =
       let g = a.given in
       let h = b.given in
-      let are : AllZip (AreInputs (length (input_pins m)) g.places) g.rows b.inputs =
-      subst (λ (places : List ℕ). AllZip (AreInputs (length (input_pins m)) places) g.rows b.inputs) (sym (places_same g h))
-      (subst (λ (rows : List Row). AllZip (AreInputs (length (input_pins m)) h.places) rows b.inputs) (sym (rows_same g h).1) b.are_inputs) in
+      let are : AllZip (AreInputs (length (input_pins m)) g.indexes) g.rows b.inputs =
+      subst (λ (indexes : List ℕ). AllZip (AreInputs (length (input_pins m)) indexes) g.rows b.inputs) (sym (indexes_same g h))
+      (subst (λ (rows : List Row). AllZip (AreInputs (length (input_pins m)) h.indexes) rows b.inputs) (sym (rows_same g h).1) b.are_inputs) in
       let inputs : a.inputs ≡ b.inputs =
-      one_inputs (input_pins m) g.columns g.places (pins_differ m valid) g.bound g.whole g.rows a.inputs b.inputs (vector_wide bytes g.columns g.rows g.says) a.are_inputs are in
+      one_inputs (input_pins m) g.columns g.indexes (pins_differ m valid) g.bound g.whole g.rows a.inputs b.inputs (vector_wide bytes g.columns g.rows g.says) a.are_inputs are in
       one_rows m valid (start m) a.inputs outs other a.outputs (subst (λ (rows : List (List ℕ)). AreRows m (start m) rows other) (sym inputs) b.outputs)
 
   -- a vector is not read or not bound for one reason
@@ -64,7 +64,7 @@ module _ (m : Module) (valid : IsValid m) (bytes : List ℕ) where
       by_reason (subst (λ (columns : List Column). IsBindFault (input_pins m) columns fault ⊎ IsMissing (input_pins m) columns fault) same h.reason)
     where
       by_reason : IsBindFault (input_pins m) g.columns fault ⊎ IsMissing (input_pins m) g.columns fault → ⊥
-      by_reason (inl bad) = bound_sound (input_pins m) g.columns g.places fault (pins_differ m valid) g.bound bad
+      by_reason (inl bad) = bound_sound (input_pins m) g.columns g.indexes fault (pins_differ m valid) g.bound bad
       by_reason (inr missing) = whole_sound (input_pins m) g.columns fault g.whole missing
 
 -- bytes have one text
@@ -87,7 +87,7 @@ one_fault m valid bytes (rows_fault.Undefined r) (rows_fault.Vector g) p q h k =
 one_fault m valid bytes (rows_fault.Undefined r) (rows_fault.Undefined s) p q h k =
     let rows = (rows_same m valid bytes h.0 k.0).1 in
     let same = one_first IsDefinedRow h.0.rows h.1.before k.1.before h.1.after k.1.after h.1.row k.1.row h.1.parts (rows ∙ k.1.parts) h.1.defined k.1.defined h.1.undefined k.1.undefined in
-    ap rows_fault.Undefined (h.1.place ∙ (ap (λ (before : List Row). length before + 1) same.0 ∙ sym k.1.place))
+    ap rows_fault.Undefined (h.1.counted ∙ (ap (λ (before : List Row). length before + 1) same.0 ∙ sym k.1.counted))
 one_fault m valid bytes rows_fault.Memory other p q h k = absurd (p refl)
 one_fault m valid bytes (rows_fault.Vector f) rows_fault.Memory p q h k = absurd (q refl)
 one_fault m valid bytes (rows_fault.Undefined r) rows_fault.Memory p q h k = absurd (q refl)

@@ -89,11 +89,11 @@ numbers_below (suc n) = let r = numbers_below n in (n ∷ r.0, λ k less. in_the
     below all each k (inl e) = omega (arith, e)
     below all each k (inr here) = let less = each k here in omega (arith, less)
 
--- one of these stands at a place
-place_of : (some : List ℕ) (n : ℕ) → IsOne some n → (k : ℕ) × (k < length some) × (slice_index some k ≡ n)
-place_of [] n here = absurd here
-place_of (x ∷ some) n (inl e) = (0, omega arith, sym e)
-place_of (x ∷ some) n (inr here) = let r = place_of some n here in (suc r.0, omega (arith, r.1), r.2)
+-- one of these stands at an index
+index_of : (some : List ℕ) (n : ℕ) → IsOne some n → (k : ℕ) × (k < length some) × (slice_index some k ≡ n)
+index_of [] n here = absurd here
+index_of (x ∷ some) n (inl e) = (0, omega arith, sym e)
+index_of (x ∷ some) n (inr here) = let r = index_of some n here in (suc r.0, omega (arith, r.1), r.2)
 
 one_at : (some : List ℕ) (k : ℕ) → k < length some → IsOne some (slice_index some k)
 one_at [] k less = absurd (omega (arith, less))
@@ -195,7 +195,7 @@ module _ (m : Module) where
   abbrev At : ℕ → Assign → Type 0
   At i a = slice_get m.assigns i ≡ Some a
 
-  -- the assign at the first place reads the name of that at the second
+  -- the assign at the first index reads the name of that at the second
   abbrev ReadsAt : ℕ → ℕ → Type 0
   ReadsAt i j = (a : Assign) × (b : Assign) × At i a × At j b × Contains (names_read a.value) b.name
 
@@ -239,8 +239,8 @@ module _ (m : Module) where
       let o = in_turn ReadsAt DependsAt reads_or_not reads_depends depends_on never (length all.0) all.0 (omega arith) in (
         o.0,
         record {
-          each = λ at less. place_of o.0 at (o.1 at (all.1 at less));
-          places = λ i less. all.2 (slice_index o.0 i) (o.2 (slice_index o.0 i) (one_at o.0 i less));
+          each = λ at less. index_of o.0 at (o.1 at (all.1 at less));
+          indexes = λ i less. all.2 (slice_index o.0 i) (o.2 (slice_index o.0 i) (one_at o.0 i less));
           once = once ReadsAt DependsAt reads_or_not reads_depends depends_on never o.0 o.3;
           after = λ i at a b less here there reads.
               before ReadsAt DependsAt reads_or_not reads_depends depends_on never o.0 o.3 i at less (o.1 at (all.1 at (slice_get_within m.assigns at b there))) (a, b, here, there, reads);

@@ -21,44 +21,44 @@ use Rattle.lg_vmeaning.proofs.ValidLemmas.{one_solution}
 use Rattle.lg_vmeaning.proofs.EdgeLemmas.{after_is_of}
 use Rattle.lg_vmeaning.proofs.StartLemmas.{start_is_of}
 use Rattle.lg_vrows.specs.Rows.{AreBoundRows, AreInputs, AreOutputsOf, IsDefinedRow, input_pins}
-use Rattle.lg_vrows.specs.Steps.{ArePlaces}
+use Rattle.lg_vrows.specs.Steps.{AreIndexes}
 use Rattle.lg_vrows.specs.Text.{rows_text}
 use Rattle.lg_vrows.specs.Due.{IsRowsText}
-use Rattle.lg_vrows.proofs.BoundLemmas.{are_places}
+use Rattle.lg_vrows.proofs.BoundLemmas.{are_indexes}
 use Rattle.lg_vrows.proofs.InputLemmas.{AreInputsTo, none_done, one_done, all_done, item_at, rows_fit}
 use Rattle.lg_vrows.proofs.OneVector.{Row, vector_wide}
 use Rattle.lg_vrows.proofs.PortLemmas.{pins_differ}
 use Rattle.lg_vrows.proofs.SomeOrder.{some_order}
 
--- as many columns as places
-as_many : (earlier : List (List ℕ)) (pins : List PinShape) (columns : List Column) (places : List ℕ) → AreBound earlier pins columns places → length places ≡ length columns
+-- as many columns as indexes
+as_many : (earlier : List (List ℕ)) (pins : List PinShape) (columns : List Column) (indexes : List ℕ) → AreBound earlier pins columns indexes → length indexes ≡ length columns
 as_many earlier pins [] [] bound = refl
-as_many earlier pins [] (p ∷ places) bound = absurd bound
+as_many earlier pins [] (p ∷ indexes) bound = absurd bound
 as_many earlier pins (c ∷ columns) [] bound = absurd bound
-as_many earlier pins (c ∷ columns) (p ∷ places) bound = ap suc (as_many (earlier ++ c.name ∷ []) pins columns places bound.2)
+as_many earlier pins (c ∷ columns) (p ∷ indexes) bound = ap suc (as_many (earlier ++ c.name ∷ []) pins columns indexes bound.2)
 
 -- and as many values in a row
 row_count : (columns : List Column) (row : Row) → IsRowOf columns row → length row ≡ length columns
 row_count columns row is = sym (length-map row (λ (v : CaredBits). length v.bits)) ∙ (ap (λ (widths : List ℕ). length widths) is ∙ length-map columns (λ (c : Column). c.width))
 
 -- a row gives its inputs numbers, column by column
-module _ (inputs : ℕ) (places : List ℕ) (are : ArePlaces inputs places) where
-  numbers_to : (row : Row) → length row ≡ length places → (done : ℕ) → done ≤ length places → (numbers : List ℕ) × AreInputsTo done inputs places row numbers
-  numbers_to row count zero most = (replicate inputs 0, none_done inputs places row (replicate inputs 0) (length-replicate inputs 0))
+module _ (inputs : ℕ) (indexes : List ℕ) (are : AreIndexes inputs indexes) where
+  numbers_to : (row : Row) → length row ≡ length indexes → (done : ℕ) → done ≤ length indexes → (numbers : List ℕ) × AreInputsTo done inputs indexes row numbers
+  numbers_to row count zero most = (replicate inputs 0, none_done inputs indexes row (replicate inputs 0) (length-replicate inputs 0))
   numbers_to row count (suc done) most =
       let so = numbers_to row count done (omega (arith, most)) in
-      let place = item_at places done (omega (arith, most)) in
+      let index = item_at indexes done (omega (arith, most)) in
       let value = item_at row done (omega (arith, most, count)) in
       let next : done + 1 ≡ suc done = omega arith in
-      let numbers = slice_set so.0 place.0 (number_of value.0.bits) in
-      (numbers, subst (λ (n : ℕ). AreInputsTo n inputs places row numbers) next (one_done done inputs places row so.0 place.0 value.0 are place.1 value.1 so.1))
+      let numbers = slice_set so.0 index.0 (number_of value.0.bits) in
+      (numbers, subst (λ (n : ℕ). AreInputsTo n inputs indexes row numbers) next (one_done done inputs indexes row so.0 index.0 value.0 are index.1 value.1 so.1))
 
-  some_numbers : (row : Row) → length row ≡ length places → (numbers : List ℕ) × AreInputs inputs places row numbers
+  some_numbers : (row : Row) → length row ≡ length indexes → (numbers : List ℕ) × AreInputs inputs indexes row numbers
   some_numbers row count =
-      let so = numbers_to row count (length places) (omega arith) in
-      (so.0, all_done (length places) inputs places row so.0 (λ column less short. less) so.1)
+      let so = numbers_to row count (length indexes) (omega arith) in
+      (so.0, all_done (length indexes) inputs indexes row so.0 (λ column less short. less) so.1)
 
-  some_inputs : (columns : List Column) → length places ≡ length columns → (rows : List Row) → All (IsRowOf columns) rows → (numbers : List (List ℕ)) × AllZip (AreInputs inputs places) rows numbers
+  some_inputs : (columns : List Column) → length indexes ≡ length columns → (rows : List Row) → All (IsRowOf columns) rows → (numbers : List (List ℕ)) × AllZip (AreInputs inputs indexes) rows numbers
   some_inputs columns count [] all = ([], tt)
   some_inputs columns count (row ∷ rows) all =
       let first = some_numbers row (row_count columns row (All-head (IsRowOf columns) row rows all) ∙ sym count) in
@@ -80,9 +80,9 @@ pub rows_exist : (m : Module) → IsValid m → (bytes : List ℕ) → (given : 
 rows_exist m valid bytes given defined =
     let pins = input_pins m in
     let wide = vector_wide bytes given.columns given.rows given.says in
-    let places = are_places pins given.columns given.places given.bound in
-    let inputs = some_inputs (length pins) given.places places given.columns (as_many [] pins given.columns given.places given.bound) given.rows wide in
-    let fit = rows_fit (lines_of is_input m) given.columns given.places (pins_differ m valid) given.bound given.whole given.rows inputs.0 wide inputs.1 in
+    let indexes = are_indexes pins given.columns given.indexes given.bound in
+    let inputs = some_inputs (length pins) given.indexes indexes given.columns (as_many [] pins given.columns given.indexes given.bound) given.rows wide in
+    let fit = rows_fit (lines_of is_input m) given.columns given.indexes (pins_differ m valid) given.bound given.whole given.rows inputs.0 wide inputs.1 in
     let order = some_order m valid.acyclic in
     let outs = some_outs m order.0 valid order.1 (start m) (start_is_of m valid.rules) inputs.0 fit in
     let are : AreOutputsOf m bytes outs.0 = record { given = given; defined = defined; inputs = inputs.0; are_inputs = inputs.1; outputs = outs.1 } in

@@ -87,16 +87,16 @@ table_end ports outs at end start text so =
     so ∙ ap (λ (some : List (ℕ × List ℕ)). start ++ flat_map (row_text ports) some) (take_all at (enumerate_from 1 outs) long)
 
 -- one digit more
-pub digit_more : (width number place : ℕ) (bit : Bit) → place < width → slice_get (word_of_number width number) (width - 1 - place) ≡ Some bit → take (place + 1) (binary width number) ≡ take place (binary width number) ++ (48 + digit_of bit) ∷ []
-digit_more width number place bit lt e =
+pub digit_more : (width number index : ℕ) (bit : Bit) → index < width → slice_get (word_of_number width number) (width - 1 - index) ≡ Some bit → take (index + 1) (binary width number) ≡ take index (binary width number) ++ (48 + digit_of bit) ∷ []
+digit_more width number index bit lt e =
     let word = word_of_number width number in
     let as_digit = λ (bit : Bit). 48 + digit_of bit in
     let wide : length word ≡ width = length-word_of_number width number in
     let turned : length (reverse word) ≡ width = length-reverse word ∙ wide in
-    let inside : place < length (reverse word) = omega (arith, turned, lt) in
-    let short : place < length word = omega (arith, wide, lt) in
-    let bit_is : get_or (reverse word) place bit ≡ bit =
-    get_or-reverse word place bit short ∙ (ap (λ (n : ℕ). get_or word (n - 1 - place) bit) wide ∙ get_or_from_slice_get word (width - 1 - place) bit bit e) in
-    take-map as_digit (place + 1) (reverse word)
-    ∙ (map_more as_digit (reverse word) place bit inside
-    ∙ ((λ k. sym (take-map as_digit place (reverse word)) k ++ as_digit (bit_is k) ∷ [])))
+    let inside : index < length (reverse word) = omega (arith, turned, lt) in
+    let short : index < length word = omega (arith, wide, lt) in
+    let bit_is : get_or (reverse word) index bit ≡ bit =
+    get_or-reverse word index bit short ∙ (ap (λ (n : ℕ). get_or word (n - 1 - index) bit) wide ∙ get_or_from_slice_get word (width - 1 - index) bit bit e) in
+    take-map as_digit (index + 1) (reverse word)
+    ∙ (map_more as_digit (reverse word) index bit inside
+    ∙ ((λ k. sym (take-map as_digit index (reverse word)) k ++ as_digit (bit_is k) ∷ [])))

@@ -38,15 +38,15 @@ pub record IsFirstUndefined (rows : List (List CaredBits)) (number : ℕ) : Type
   pub row : List CaredBits
   pub after : List (List CaredBits)
   pub parts : rows ≡ before ++ row ∷ after
-  pub place : number ≡ length before + 1
+  pub counted : number ≡ length before + 1
   pub defined : All IsDefinedRow before
   pub undefined : IsDefinedRow row → ⊥
 
--- a number for each of so many inputs: the input at the place of a column has the number of the column's value
-pub record AreInputs (inputs : ℕ) (places : List ℕ) (row : List CaredBits) (numbers : List ℕ) : Type 0 where
+-- a number for each of so many inputs: the input at the index of a column has the number of the column's value
+pub record AreInputs (inputs : ℕ) (indexes : List ℕ) (row : List CaredBits) (numbers : List ℕ) : Type 0 where
   pub count : length numbers ≡ inputs
-  pub each : (column place : ℕ) (value : CaredBits) → slice_get places column ≡ Some place → slice_get row column ≡ Some value
-      → slice_get numbers place ≡ Some (number_of value.bits)
+  pub each : (column index : ℕ) (value : CaredBits) → slice_get indexes column ≡ Some index → slice_get row column ≡ Some value
+      → slice_get numbers index ≡ Some (number_of value.bits)
 
 -- bytes are a vector whose columns are bound to the inputs of a module
 pub record AreBoundRows (m : Module) (bytes : List ℕ) : Type 0 where
@@ -54,8 +54,8 @@ pub record AreBoundRows (m : Module) (bytes : List ℕ) : Type 0 where
   pub rows : List (List CaredBits)
   pub says : IsVectorText bytes columns rows
   pub few : length rows ≤ 65536
-  pub places : List ℕ
-  pub bound : AreBound [] (input_pins m) columns places
+  pub indexes : List ℕ
+  pub bound : AreBound [] (input_pins m) columns indexes
   pub whole : HaveColumns columns (input_pins m)
 
 -- bytes are rows of defined numbers for the inputs of a module, and these are its outputs on them
@@ -63,5 +63,5 @@ pub record AreOutputsOf (m : Module) (bytes : List ℕ) (outs : List (List ℕ))
   pub given : AreBoundRows m bytes
   pub defined : All IsDefinedRow given.rows
   pub inputs : List (List ℕ)
-  pub are_inputs : AllZip (AreInputs (length (input_pins m)) given.places) given.rows inputs
+  pub are_inputs : AllZip (AreInputs (length (input_pins m)) given.indexes) given.rows inputs
   pub outputs : AreOutputs m (start m) inputs outs

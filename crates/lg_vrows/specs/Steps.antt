@@ -17,7 +17,7 @@ pub record IsPrinted (line : PortLine) : Type 0 where
 abbrev pub lines : List PortLine → List (List ℕ × ℕ)
 lines ports = map (λ (line : PortLine). (line.name, line.width)) ports
 
--- places among so many inputs, none of which comes twice
-pub record ArePlaces (inputs : ℕ) (places : List ℕ) : Type 0 where
-  pub below : (column place : ℕ) → slice_get places column ≡ Some place → place < inputs
-  pub apart : (column other place : ℕ) → slice_get places column ≡ Some place → slice_get places other ≡ Some place → column ≡ other
+-- indexes among so many inputs, none of which comes twice
+pub record AreIndexes (inputs : ℕ) (indexes : List ℕ) : Type 0 where
+  pub below : (column index : ℕ) → slice_get indexes column ≡ Some index → index < inputs
+  pub apart : (column other index : ℕ) → slice_get indexes column ≡ Some index → slice_get indexes other ≡ Some index → column ≡ other

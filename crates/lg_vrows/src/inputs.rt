@@ -3,7 +3,7 @@
 ghost use Rattle.std.specs.Prelude.{◌≡◌, ◌↔◌, ◌<◌, ◌≤◌, All, IsTrue, length, None, MatchOption, IfOk};
 ghost use Rattle.std.specs.List.{AllZip};
 ghost use Rattle.lg_vrows.specs.Rows.{IsWhole, IsDefinedRow, IsFirstUndefined, AreInputs};
-ghost use Rattle.lg_vrows.specs.Steps.{ArePlaces};
+ghost use Rattle.lg_vrows.specs.Steps.{AreIndexes};
 
 use lg_value::{Bit, Word};
 use lg_vectors::Cared;
@@ -36,19 +36,19 @@ fn is_whole(value: &Cared) -> bool
     care == Word::fill(care.width(), Bit::One)
 }
 
-/// The numbers of so many inputs in each row, where the columns are bound to the inputs at these places.
+/// The numbers of so many inputs in each row, where the columns are bound to the inputs at these indexes.
 pub fn inputs_of(
     alloc: Global,
     inputs: usize,
-    places: &[u32],
+    indexes: &[u32],
     rows: &[Items<Cared>],
 ) -> Result<Vec<Items<u64>>, AllocError>
-    requires { ArePlaces inputs places.now }
-    ensures { IfOk result (λ numbers. AllZip (AreInputs inputs places.now) rows.now numbers.items) }
+    requires { AreIndexes inputs indexes.now }
+    ensures { IfOk result (λ numbers. AllZip (AreInputs inputs indexes.now) rows.now numbers.items) }
 {
     let mut numbers = Vec::with_capacity(alloc, rows.len())?;
     for row in rows {
-        numbers.push(row_of(alloc, inputs, places, row.as_slice())?)?;
+        numbers.push(row_of(alloc, inputs, indexes, row.as_slice())?)?;
     }
     Ok(numbers)
 }
@@ -56,15 +56,15 @@ pub fn inputs_of(
 fn row_of(
     alloc: Global,
     inputs: usize,
-    places: &[u32],
+    indexes: &[u32],
     row: &[Cared],
 ) -> Result<Items<u64>, AllocError>
-    requires { ArePlaces inputs places.now }
-    ensures { IfOk result (λ numbers. AreInputs inputs places.now row.now numbers) }
+    requires { AreIndexes inputs indexes.now }
+    ensures { IfOk result (λ numbers. AreInputs inputs indexes.now row.now numbers) }
 {
     let mut numbers = vec![in alloc; 0; inputs]?;
-    for (place, value) in places.iter().zip(row) {
-        numbers[*place as usize] = value.bits().number();
+    for (index, value) in indexes.iter().zip(row) {
+        numbers[*index as usize] = value.bits().number();
     }
     Ok(Items::from_vec(numbers))
 }

@@ -18,11 +18,16 @@ pub fn rows_text(alloc: Global, module: &Valid, bytes: &[u8]) -> Result<Vec<u8>,
 {
     let vector = read_vector(alloc, bytes)?;
     let pins = input_pins(alloc, module.inputs())?;
-    let places = bind_rows(alloc, &vector, pins.as_slice())?;
+    let indexes = bind_rows(alloc, &vector, pins.as_slice())?;
     if let Some(row) = first_undefined(vector.rows.as_slice()) {
         return Err(RowsFault::Undefined { row });
     }
-    let inputs = inputs_of(alloc, pins.len(), places.as_slice(), vector.rows.as_slice())?;
+    let inputs = inputs_of(
+        alloc,
+        pins.len(),
+        indexes.as_slice(),
+        vector.rows.as_slice(),
+    )?;
     let outs = module.run_rows(alloc, inputs.as_slice())?;
     Ok(print(alloc, module.outputs(), outs.as_slice())?)
 }

@@ -63,8 +63,8 @@ fn put_binary(text: &mut Vec<u8>, width: u32, number: u64) -> Result<(), AllocEr
     ensures { OnOk result (text.new.items ≡ text.old.items ++ binary width number) }
 {
     let word = Word::from_number(width, number);
-    for place in 0..width {
-        text.push(digit(word.bit(width - 1 - place)))?;
+    for index in 0..width {
+        text.push(digit(word.bit(width - 1 - index)))?;
     }
     Ok(())
 }

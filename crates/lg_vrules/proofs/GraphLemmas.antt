@@ -14,7 +14,7 @@ use Rattle.lg_graph.proofs.Ways.{nothing, Contains-cons_cases, leads_or_not}
 use Rattle.lg_vtree.specs.declared.module.Assign.{Assign}
 use Rattle.lg_vtree.specs.declared.module.Module.{Module}
 use Rattle.lg_vrules.specs.Rules.{is_among, all_differ}
-use Rattle.lg_vrules.specs.Places.{place_from, place_list, places_of, first_marked_from}
+use Rattle.lg_vrules.specs.Indexes.{index_from, index_list, indexes_of, first_marked_from}
 use Rattle.lg_vrules.specs.Depends.{names_read, Reads, IsChain, DependsOn, IsFirstCyclic, IsAcyclic}
 use Rattle.lg_vrules.specs.Order.{IsOrder}
 use Rattle.lg_vrules.proofs.NameLemmas.{not_true}
@@ -30,35 +30,35 @@ cons_first x xs = (0, omega arith, refl)
 cons_later : {X : Type 0} (x y : X) (xs : List X) → Contains xs y → Contains (x ∷ xs) y
 cons_later x y xs c = (suc c.0, omega (arith, c.1), c.2)
 
--- places
+-- indexes
 
-of_place : (place : List ℕ → Option ℕ) (some : List (List ℕ)) (k : ℕ) → Contains (places_of place some) k → (name : List ℕ) × Contains some name × (place name ≡ Some k)
-of_place place [] k c = absurd (nothing c)
-of_place place (n ∷ some) k c = step (place n) refl c (λ d. of_place place some k d)
+of_index : (index : List ℕ → Option ℕ) (some : List (List ℕ)) (k : ℕ) → Contains (indexes_of index some) k → (name : List ℕ) × Contains some name × (index name ≡ Some k)
+of_index index [] k c = absurd (nothing c)
+of_index index (n ∷ some) k c = step (index n) refl c (λ d. of_index index some k d)
   where
-    wider : ((name : List ℕ) × Contains some name × (place name ≡ Some k)) → (name : List ℕ) × Contains (n ∷ some) name × (place name ≡ Some k)
+    wider : ((name : List ℕ) × Contains some name × (index name ≡ Some k)) → (name : List ℕ) × Contains (n ∷ some) name × (index name ≡ Some k)
     wider f = (f.0, cons_later n f.0 some f.1, f.2)
 
-    step : (o : Option ℕ) → place n ≡ o → Contains (place_list o ++ places_of place some) k → (Contains (places_of place some) k → (name : List ℕ) × Contains some name × (place name ≡ Some k))
-        → (name : List ℕ) × Contains (n ∷ some) name × (place name ≡ Some k)
+    step : (o : Option ℕ) → index n ≡ o → Contains (index_list o ++ indexes_of index some) k → (Contains (indexes_of index some) k → (name : List ℕ) × Contains some name × (index name ≡ Some k))
+        → (name : List ℕ) × Contains (n ∷ some) name × (index name ≡ Some k)
     step None e c rest = wider (rest c)
-    step (Some p) e c rest = elim (Contains-cons_cases p (places_of place some) k c) [
+    step (Some p) e c rest = elim (Contains-cons_cases p (indexes_of index some) k c) [
       | inl same ↦ (n, cons_first n some, e ∙ ap Some same)
       | inr later ↦ wider (rest later)
     ]
 
-in_places : (place : List ℕ → Option ℕ) (some : List (List ℕ)) (name : List ℕ) (k : ℕ) → Contains some name → place name ≡ Some k → Contains (places_of place some) k
-in_places place [] name k c e = absurd (nothing c)
-in_places place (n ∷ some) name k c e = elim (Contains-cons_cases n some name c) [
-  | inl same ↦ subst (λ (o : Option ℕ). Contains (place_list o ++ places_of place some) k) (sym (ap place same ∙ e)) (cons_first k (places_of place some))
-  | inr later ↦ Contains-append_right (place_list (place n)) (places_of place some) k (in_places place some name k later e)
+in_indexes : (index : List ℕ → Option ℕ) (some : List (List ℕ)) (name : List ℕ) (k : ℕ) → Contains some name → index name ≡ Some k → Contains (indexes_of index some) k
+in_indexes index [] name k c e = absurd (nothing c)
+in_indexes index (n ∷ some) name k c e = elim (Contains-cons_cases n some name c) [
+  | inl same ↦ subst (λ (o : Option ℕ). Contains (index_list o ++ indexes_of index some) k) (sym (ap index same ∙ e)) (cons_first k (indexes_of index some))
+  | inr later ↦ Contains-append_right (index_list (index n)) (indexes_of index some) k (in_indexes index some name k later e)
 ]
 
-pub place_tells : (n : ℕ) (ns : List (List ℕ)) (name : List ℕ) (k : ℕ) → place_from n ns name ≡ Some k → (j : ℕ) × (k ≡ n + j) × (slice_get ns j ≡ Some name)
-place_tells n [] name k e = absurd (cc e)
-place_tells n (o ∷ ns) name k e = step (bytes_eq o name) refl e (λ f. place_tells (n + 1) ns name k f)
+pub index_tells : (n : ℕ) (ns : List (List ℕ)) (name : List ℕ) (k : ℕ) → index_from n ns name ≡ Some k → (j : ℕ) × (k ≡ n + j) × (slice_get ns j ≡ Some name)
+index_tells n [] name k e = absurd (cc e)
+index_tells n (o ∷ ns) name k e = step (bytes_eq o name) refl e (λ f. index_tells (n + 1) ns name k f)
   where
-    step : (b : Bool) → bytes_eq o name ≡ b → cond b (Some n) (place_from (n + 1) ns name) ≡ Some k → (place_from (n + 1) ns name ≡ Some k → (j : ℕ) × (k ≡ n + 1 + j) × (slice_get ns j ≡ Some name))
+    step : (b : Bool) → bytes_eq o name ≡ b → cond b (Some n) (index_from (n + 1) ns name) ≡ Some k → (index_from (n + 1) ns name ≡ Some k → (j : ℕ) × (k ≡ n + 1 + j) × (slice_get ns j ≡ Some name))
         → (j : ℕ) × (k ≡ n + j) × (slice_get (o ∷ ns) j ≡ Some name)
     step true e f rest = let here : n ≡ k = same_Some n k f in (0, omega (arith, here), ap Some ((bytes_eq-Decides o name).0 e))
     step false e f rest = let r = rest f in (suc r.0, omega (arith, r.1), r.2)
@@ -72,18 +72,18 @@ among_at (o ∷ ns) (suc j) name q e same = rw (among_at ns j name q e same) (or
     or_true true = refl
     or_true false = refl
 
-place_back : (n : ℕ) (ns : List (List ℕ)) (j : ℕ) (name : List ℕ) → all_differ ns ≡ true → slice_get ns j ≡ Some name → place_from n ns name ≡ Some (n + j)
-place_back n [] j name d e = absurd (cc e)
-place_back n (o ∷ ns) zero name d e =
+index_back : (n : ℕ) (ns : List (List ℕ)) (j : ℕ) (name : List ℕ) → all_differ ns ≡ true → slice_get ns j ≡ Some name → index_from n ns name ≡ Some (n + j)
+index_back n [] j name d e = absurd (cc e)
+index_back n (o ∷ ns) zero name d e =
     let here : o ≡ name = same_Some o name e in
     let same : bytes_eq o name ≡ true = (bytes_eq-Decides o name).1 here in
     let at : n ≡ n + 0 = omega arith in
     rw same (ap Some at)
-place_back n (o ∷ ns) (suc j) name d e =
+index_back n (o ∷ ns) (suc j) name d e =
     let parts = and_parts (not (is_among o ns)) (all_differ ns) d in
     let apart : is_among o ns ≡ false = not_true (is_among o ns) parts.0 in
     let on : n + 1 + j ≡ n + suc j = omega arith in
-    rw (differs (bytes_eq o name) refl apart) (place_back (n + 1) ns j name parts.1 e ∙ ap Some on)
+    rw (differs (bytes_eq o name) refl apart) (index_back (n + 1) ns j name parts.1 e ∙ ap Some on)
   where
     differs : (b : Bool) → bytes_eq o name ≡ b → is_among o ns ≡ false → bytes_eq o name ≡ false
     differs false f apart = f
@@ -114,16 +114,16 @@ assign_at (a ∷ assigns) zero lt = (a, refl)
 assign_at (a ∷ assigns) (suc i) lt = assign_at assigns i (omega (arith, lt))
 
 module _ (m : Module) (differ : all_differ (names m.assigns) ≡ true) where
-  abbrev place : List ℕ → Option ℕ
-  place name = place_from 0 (names m.assigns) name
+  abbrev index : List ℕ → Option ℕ
+  index name = index_from 0 (names m.assigns) name
 
   abbrev node : Assign → List ℕ
-  node a = places_of place (names_read a.value)
+  node a = indexes_of index (names_read a.value)
 
   abbrev pub graph : Graph
   graph = map node m.assigns
 
-  -- an assign stands at a place
+  -- an assign stands at an index
   abbrev pub At : ℕ → Assign → Type 0
   At i a = slice_get m.assigns i ≡ Some a
 
@@ -134,12 +134,12 @@ module _ (m : Module) (differ : all_differ (names m.assigns) ≡ true) where
       step None f g = absurd (cc g)
       step (Some a) f g = (a, f, same_Some a.name name g)
 
-  placed : (i : ℕ) (a : Assign) → At i a → place a.name ≡ Some i
-  placed i a e = place_back 0 (names m.assigns) i a.name differ (slice_get-map (λ (a : Assign). a.name) m.assigns i ∙ ap (option_map (λ (a : Assign). a.name)) e) ∙ (let none : 0 + i ≡ i = omega arith in ap Some none)
+  indexed : (i : ℕ) (a : Assign) → At i a → index a.name ≡ Some i
+  indexed i a e = index_back 0 (names m.assigns) i a.name differ (slice_get-map (λ (a : Assign). a.name) m.assigns i ∙ ap (option_map (λ (a : Assign). a.name)) e) ∙ (let none : 0 + i ≡ i = omega arith in ap Some none)
 
-  pub same_place : (i k : ℕ) (a b : Assign) → At i a → At k b → a.name ≡ b.name → (i ≡ k) × (a ≡ b)
-  same_place i k a b e f same =
-      let at : i ≡ k = same_Some i k (sym (placed i a e) ∙ (ap place same ∙ placed k b f)) in
+  pub same_index : (i k : ℕ) (a b : Assign) → At i a → At k b → a.name ≡ b.name → (i ≡ k) × (a ≡ b)
+  same_index i k a b e f same =
+      let at : i ≡ k = same_Some i k (sym (indexed i a e) ∙ (ap index same ∙ indexed k b f)) in
       (at, same_Some a b (sym e ∙ (ap (slice_get m.assigns) at ∙ f)))
 
   at_node : (i : ℕ) (a : Assign) → At i a → get_or graph i [] ≡ node a
@@ -158,17 +158,17 @@ module _ (m : Module) (differ : all_differ (names m.assigns) ≡ true) where
   -- an arrow from an assign leads to one to a name that it reads
   arrow_reads : (i j : ℕ) (a : Assign) → At i a → HasArrow graph i j → (b : Assign) × At j b × Reads m a.name b.name
   arrow_reads i j a e arrow =
-      let inside = of_place place (names_read a.value) j (subst (λ (l : List ℕ). Contains l j) (at_node i a e) arrow) in
-      let tells = place_tells 0 (names m.assigns) inside.0 j inside.2 in
+      let inside = of_index index (names_read a.value) j (subst (λ (l : List ℕ). Contains l j) (at_node i a e) arrow) in
+      let tells = index_tells 0 (names m.assigns) inside.0 j inside.2 in
       let same : tells.0 ≡ j = omega (arith, tells.1) in
       let found = named_at j inside.0 (subst (λ k. slice_get (names m.assigns) k ≡ Some inside.0) same tells.2) in
       (found.0, found.1, record { at = i; assign = a; stands = e; gives = refl; reads = subst (Contains (names_read a.value)) (sym found.2) inside.1 })
 
   reads_arrow : (i j : ℕ) (a b : Assign) → At i a → At j b → Reads m a.name b.name → HasArrow graph i j
   reads_arrow i j a b e f r =
-      let same = same_place i r.at a r.assign e r.stands (sym r.gives) in
+      let same = same_index i r.at a r.assign e r.stands (sym r.gives) in
       let reads : Contains (names_read a.value) b.name = subst (λ (x : Assign). Contains (names_read x.value) b.name) (sym same.1) r.reads in
-      subst (λ (l : List ℕ). Contains l j) (sym (at_node i a e)) (in_places place (names_read a.value) b.name j reads (placed j b f))
+      subst (λ (l : List ℕ). Contains l j) (sym (at_node i a e)) (in_indexes index (names_read a.value) b.name j reads (indexed j b f))
 
   -- a way is a chain
   way_chain : (i j : ℕ) (over : List ℕ) (a : Assign) → At i a → IsWay graph i over j → (b : Assign) × At j b × DependsOn m a.name b.name
@@ -276,11 +276,11 @@ module _ (m : Module) (differ : all_differ (names m.assigns) ≡ true) where
           first = λ earlier other less stands. unmarked earlier other stands (f.4 earlier (omega (arith, here, less)));
         }
 
-  -- without cycles the sorted places are an order
+  -- without cycles the sorted indexes are an order
   pub tells_order : (sorted : Sorted) → IsSorted graph sorted → IsAcyclic m → IsOrder m sorted.order
   tells_order sorted is acyclic = record {
     each = λ at lt. is.each at (omega (arith, lt, length-map m.assigns node));
-    places = λ i lt. omega (arith, is.nodes i lt, length-map m.assigns node);
+    indexes = λ i lt. omega (arith, is.nodes i lt, length-map m.assigns node);
     once = is.once;
     after = λ i at a b lt here there reads.
         let arrow = reads_arrow (slice_index sorted.order i) at a b here there (record { at = slice_index sorted.order i; assign = a; stands = here; gives = refl; reads = reads }) in

@@ -14,7 +14,7 @@ map_map g h (x ∷ xs) = ap (λ ys. g (h x) ∷ ys) (map_map g h xs)
 map_twice : {A B C : Type 0} (g : B → C) (h : A → B) (f : Expr-F A) → map-Expr B C g (map-Expr A B h f) ≡ map-Expr A C (λ x. g (h x)) f
 map_twice g h (Expr-F.Const c) = refl
 map_twice g h (Expr-F.Whole name) = refl
-map_twice g h (Expr-F.Place name place) = refl
+map_twice g h (Expr-F.Bit name index) = refl
 map_twice g h (Expr-F.Part name high low) = refl
 map_twice g h (Expr-F.Item name e) = refl
 map_twice g h (Expr-F.Join a b more) = ap (λ ys. Expr-F.Join (g (h a)) (g (h b)) ys) (map_map g h more)
@@ -38,7 +38,7 @@ module _ (here : Expr-F Expr → Bool) where
   same_parts : (n : ℕ) → ((e : Expr) → depth e ≤ n → first e ≡ e) → (f : Expr-F Expr) → form_depth (map-Expr Expr ℕ depth f) ≤ suc n → map-Expr Expr Expr first f ≡ f
   same_parts n inner (Expr-F.Const c) deep = refl
   same_parts n inner (Expr-F.Whole name) deep = refl
-  same_parts n inner (Expr-F.Place name place) deep = refl
+  same_parts n inner (Expr-F.Bit name index) deep = refl
   same_parts n inner (Expr-F.Part name high low) deep = refl
   same_parts n inner (Expr-F.Item name e) deep = ap (λ x. Expr-F.Item name x) (inner e (omega arith))
   same_parts n inner (Expr-F.Join a b more) deep = λ i. Expr-F.Join (inner a (omega arith) i) (inner b (omega arith) i) (all more (omega arith) i)
@@ -53,7 +53,7 @@ module _ (here : Expr-F Expr → Bool) where
   some_depth : (f : Expr-F ℕ) → form_depth f ≤ 0 → ⊥
   some_depth (Expr-F.Const c) d = absurd (omega (arith, d))
   some_depth (Expr-F.Whole name) d = absurd (omega (arith, d))
-  some_depth (Expr-F.Place name place) d = absurd (omega (arith, d))
+  some_depth (Expr-F.Bit name index) d = absurd (omega (arith, d))
   some_depth (Expr-F.Part name high low) d = absurd (omega (arith, d))
   some_depth (Expr-F.Item name e) d = absurd (omega (arith, d))
   some_depth (Expr-F.Join a b more) d = absurd (omega (arith, d))

@@ -1,10 +1,10 @@
 mod DivisorLemmas
 pub mod GraphLemmas
-pub mod IndexLemmas
-mod IndexWidthLemmas
+pub mod NameIndexLemmas
+mod AddressWidthLemmas
 mod InsideLemmas
 pub mod NameLemmas
 mod OnceLemmas
-mod PlaceLemmas
+mod IndexesLemmas
 pub mod RuleLemmas
 mod WidthLemmas

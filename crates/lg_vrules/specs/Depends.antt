@@ -7,11 +7,11 @@ use Rattle.lg_vtree.specs.declared.module.Module.{Module}
 use Rattle.lg_vtree.specs.declared.expr.Expr.{Expr, fold-Expr}
 use Rattle.lg_vtree.specs.declared.expr.Expr.TheOpen.{Expr-F}
 
--- the names that an expression reads numbers of, in order; of a word of a memory those of its index
+-- the names that an expression reads numbers of, in order; of a word of a memory those of its address
 abbrev pub form_names : Expr-F (List (List ℕ)) → List (List ℕ)
 form_names (Expr-F.Const c) = []
 form_names (Expr-F.Whole name) = name ∷ []
-form_names (Expr-F.Place name place) = name ∷ []
+form_names (Expr-F.Bit name index) = name ∷ []
 form_names (Expr-F.Part name high low) = name ∷ []
 form_names (Expr-F.Item name e) = e
 form_names (Expr-F.Join a b more) = a ++ b ++ flat_map (λ names. names) more

@@ -9,7 +9,7 @@ use Rattle.lg_vtree.specs.declared.expr.Expr.TheOpen.{Expr-F}
 abbrev pub all_pass : Expr-F Bool → Bool
 all_pass (Expr-F.Const c) = true
 all_pass (Expr-F.Whole name) = true
-all_pass (Expr-F.Place name place) = true
+all_pass (Expr-F.Bit name index) = true
 all_pass (Expr-F.Part name high low) = true
 all_pass (Expr-F.Item name e) = e
 all_pass (Expr-F.Join a b more) = list_all (λ e. e) more && (a && b)

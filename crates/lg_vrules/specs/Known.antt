@@ -1,18 +1,16 @@
 -- What an index of names knows.
 use Rattle.std.specs.Prelude.{◌≡◌, ◌≤◌, ℕ, Bool, true, false, List, map, Option, Some, None, is_none, option_map, unwrap_or}
 use Rattle.std.specs.BTreeMap.{get_by_text}
-use Rattle.std.specs.BTreeSet.{contains_text}
 use Rattle.std.specs.Map.{lookup, update}
 use Rattle.std.specs.Str.{bytes_eq}
 use Rattle.lg_vtree.specs.declared.module.Module.{Module}
 use Rattle.lg_vrules.specs.declared.names.Sort.{Sort}
 use Rattle.lg_vrules.specs.declared.names.Thing.{Thing}
 use Rattle.lg_vrules.specs.declared.names.NameIndex.{NameIndex}
-use Rattle.lg_vrules.specs.declared.name_set.NameSet.{NameSet}
 use Rattle.lg_vrules.specs.declared.once.Target.{Target}
 use Rattle.lg_vrules.specs.declared.once.Target.TheVariants as target
 use Rattle.lg_vrules.specs.Things.{range_width, things, names, is_assignable, is_reg, is_memory}
-use Rattle.lg_vrules.specs.Rules.{is_among, all_differ}
+use Rattle.lg_vrules.specs.Rules.{all_differ}
 
 -- what stands under a name
 abbrev pub under : NameIndex → List ℕ → Option Thing
@@ -42,20 +40,6 @@ pub record Adds (old new : NameIndex) (name : List ℕ) (thing : Thing) (added :
 -- no name is wider than 128 bits
 abbrev pub AreNarrow : NameIndex → Type 0
 AreNarrow index = (name : List ℕ) → width_under index name ≤ 128
-
--- a name is in a set
-abbrev pub holds : NameSet → List ℕ → Bool
-holds set name = contains_text set.names name
-
--- just these names are in a set, and they differ
-pub record KnowsNames (some : List (List ℕ)) (set : NameSet) : Type 0 where
-  pub differ : all_differ some ≡ true
-  pub known : (name : List ℕ) → holds set name ≡ is_among name some
-
--- the set of some names, and none where two of them are equal
-abbrev pub IsSet : List (List ℕ) → Option NameSet → Type 0
-IsSet some None = all_differ some ≡ false
-IsSet some (Some set) = KnowsNames some set
 
 abbrev pub is_target : Target → Sort → Bool
 is_target target.Assigned = is_assignable

@@ -4,5 +4,5 @@ pub mod Rules
 pub mod Broken
 pub mod Known
 pub mod Depends
-pub mod Places
+pub mod Indexes
 pub mod Order

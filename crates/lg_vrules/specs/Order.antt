@@ -7,15 +7,15 @@ use Rattle.lg_vrules.specs.declared.depends.Dependence.{Dependence}
 use Rattle.lg_vrules.specs.declared.depends.Dependence.TheVariants.{Ordered, Cyclic}
 use Rattle.lg_vrules.specs.Depends.{names_read, IsAcyclic, IsFirstCyclic}
 
--- a place of an assign stands in the order before this point of it
+-- an index of an assign stands in the order before this point of it
 abbrev pub IsBefore : List ℕ → ℕ → ℕ → Type 0
 IsBefore order i at = (before : ℕ) × (before < i) × (slice_index order before ≡ at)
 
--- places of assigns
+-- indexes of assigns
 pub record IsOrder (m : Module) (order : List ℕ) : Type 0 where
-  -- each place stands in the order, once, and nothing else does
+  -- each index stands in the order, once, and nothing else does
   pub each : (at : ℕ) → at < length m.assigns → IsBefore order (length order) at
-  pub places : (i : ℕ) → i < length order → slice_index order i < length m.assigns
+  pub indexes : (i : ℕ) → i < length order → slice_index order i < length m.assigns
   pub once : (i j : ℕ) → i < length order → j < length order → slice_index order i ≡ slice_index order j → i ≡ j
   -- an assign that reads another's name stands after it
   pub after : (i at : ℕ) (a b : Assign) → i < length order → slice_get m.assigns (slice_index order i) ≡ Some a → slice_get m.assigns at ≡ Some b

@@ -1,8 +1,9 @@
 -- Which modules are valid: seven rules, of which each later one is asked only where the earlier ones hold.
 -- Source: IEEE 1364-2005, 12.3 (ports), 4.2 and 4.9 (declarations), 5.4 (widths of expressions), 6.1 and 9.2 (assignments), in a narrower form.
 use Rattle.std.specs.Prelude.{ℕ, zero, suc, sum_by, ◌+◌, ◌-◌, ◌^◌, ◌==◌, nat_le, nat_lt, Bool, true, false, not, ◌&&◌, ◌||◌, List, [], ◌∷◌, map, length, take, Option, Some, None, option_map, option_and_then, unwrap_or, is_some, codes, if◌then◌else◌}
-use Rattle.std.specs.List.{list_all, list_any}
+use Rattle.std.specs.List.{list_all}
 use Rattle.std.specs.Str.{bytes_eq}
+pub use Rattle.lg_vnames.specs.Names.{is_among, all_differ}
 use Rattle.lg_vtree.specs.declared.module.Port.{Port}
 use Rattle.lg_vtree.specs.declared.module.Fill.{Fill}
 use Rattle.lg_vtree.specs.declared.module.Word.{Word}
@@ -25,15 +26,6 @@ use Rattle.lg_vrules.specs.declared.names.Sort.TheVariants as sort
 use Rattle.lg_vrules.specs.declared.names.Thing.{Thing}
 use Rattle.lg_vrules.specs.Inside.{holds_inside}
 use Rattle.lg_vrules.specs.Things.{range_width, things, port_thing, decl_thing, names, sort_of, width_of, is_reg, is_memory, is_assignable, is_readable}
-
--- the name is one of these
-abbrev pub is_among : List ℕ → List (List ℕ) → Bool
-is_among name names = list_any (λ other. bytes_eq other name) names
-
--- no name stands twice
-abbrev pub all_differ : List (List ℕ) → Bool
-all_differ [] = true
-all_differ (name ∷ more) = not (is_among name more) && all_differ more
 
 -- 1: declared names differ; an input is `clk`, of one bit, or begins with `i_`, and an output with `o_`
 
@@ -62,7 +54,7 @@ is_of is sort name = unwrap_or (option_map is (sort name)) false
 abbrev pub form_reads : (List ℕ → Option Sort) → Expr-F Bool → Bool
 form_reads sort (Expr-F.Const c) = true
 form_reads sort (Expr-F.Whole name) = is_of is_readable sort name
-form_reads sort (Expr-F.Place name place) = is_of is_readable sort name
+form_reads sort (Expr-F.Bit name index) = is_of is_readable sort name
 form_reads sort (Expr-F.Part name high low) = is_of is_readable sort name
 form_reads sort (Expr-F.Item name e) = is_of is_memory sort name && e
 form_reads sort (Expr-F.Join a b more) = a && (b && list_all (λ e. e) more)
@@ -75,8 +67,8 @@ reads_declared sort e = fold-Expr Bool (form_reads sort) e
 
 abbrev pub stmt_uses : (List ℕ → Option Sort) → Stmt → Bool
 stmt_uses sort (stmt.Store name value) = is_of is_reg sort name && reads_declared sort value
-stmt_uses sort (stmt.StoreIf condition name place value) =
-    is_of is_memory sort name && (reads_declared sort condition && (reads_declared sort place && reads_declared sort value))
+stmt_uses sort (stmt.StoreIf condition name address value) =
+    is_of is_memory sort name && (reads_declared sort condition && (reads_declared sort address && reads_declared sort value))
 
 -- what an `assign` gives a number is declared, and is not the clock
 abbrev pub is_target : Sort → Bool
@@ -107,7 +99,7 @@ all_use sort m =
 abbrev pub are_used : (List ℕ → Option Sort) → Module → Bool
 are_used sort m = list_all is_no_clock m.decls && all_use sort m
 
--- 3: widths and places fit
+-- 3: widths, indexes and addresses fit
 
 -- a number of a width from 1 to 128
 abbrev pub constant_fits : Constant → Bool
@@ -146,20 +138,20 @@ abbrev pub constant_width : Constant → Option ℕ
 constant_width c = where_ (constant_fits c) c.width
 
 -- one bit of a name of several bits
-abbrev pub place_width : ℕ → ℕ → Option ℕ
-place_width width place = where_ (nat_lt 1 width && nat_lt place width) 1
+abbrev pub bit_width : ℕ → ℕ → Option ℕ
+bit_width width index = where_ (nat_lt 1 width && nat_lt index width) 1
 
 -- some bits of a name of several bits
 abbrev pub part_width : ℕ → ℕ → ℕ → Option ℕ
 part_width width high low = where_ (nat_lt 1 width && (nat_le low high && nat_lt high width)) (high + 1 - low)
 
--- the width of an expression in which all widths and places fit
+-- the width of an expression in which all widths and indexes fit
 abbrev pub form_width : (List ℕ → ℕ) → Expr-F (Option ℕ) → Option ℕ
 form_width width (Expr-F.Const c) = constant_width c
 form_width width (Expr-F.Whole name) = Some (width name)
-form_width width (Expr-F.Place name place) = place_width (width name) place
+form_width width (Expr-F.Bit name index) = bit_width (width name) index
 form_width width (Expr-F.Part name high low) = part_width (width name) high low
-form_width width (Expr-F.Item name e) = option_map (λ (place : ℕ). width name) e
+form_width width (Expr-F.Item name e) = option_map (λ (address : ℕ). width name) e
 form_width width (Expr-F.Join a b more) = option_and_then at_most_128 (sum_of (a ∷ b ∷ more))
 form_width width (Expr-F.Not e) = e
 form_width width (Expr-F.Binary a op b) = option_and_then (λ left. option_and_then (binary_width op left) b) a
@@ -193,21 +185,21 @@ assign_fits sort width a =
 
 abbrev pub stmt_fits : (List ℕ → ℕ) → Stmt → Bool
 stmt_fits width (stmt.Store name value) = is_width width (width name) value
-stmt_fits width (stmt.StoreIf condition name place value) =
-    is_width width 1 condition && (is_some (expr_width width place) && is_width width (width name) value)
+stmt_fits width (stmt.StoreIf condition name address value) =
+    is_width width 1 condition && (is_some (expr_width width address) && is_width width (width name) value)
 
 abbrev pub decl_fits : (List ℕ → ℕ) → Decl → Bool
 decl_fits width (decl.Wire range name) = true
 decl_fits width (decl.Reg range name start) = constant_of width name start
 decl_fits width (decl.Memory range name last) = true
 
--- the last place of a memory, and 0 of what is none
-abbrev pub last_place : Option Sort → ℕ
-last_place (Some (sort.Memory last)) = last
-last_place _ = 0
+-- the last address of a memory, and 0 of what is none
+abbrev pub last_address : Option Sort → ℕ
+last_address (Some (sort.Memory last)) = last
+last_address _ = 0
 
 abbrev pub word_fits : (List ℕ → Option Sort) → (List ℕ → ℕ) → Word → Bool
-word_fits sort width w = nat_le w.place (last_place (sort w.name)) && constant_of width w.name w.value
+word_fits sort width w = nat_le w.address (last_address (sort w.name)) && constant_of width w.name w.value
 
 abbrev pub are_narrow : Module → Bool
 are_narrow m = list_all (λ (p : Port). is_narrow (port_thing p)) m.ports && list_all (λ (d : Decl). is_narrow (decl_thing d)) m.decls
@@ -237,7 +229,7 @@ are_assigned_once sort m =
 
 abbrev pub stored_name : Stmt → List ℕ
 stored_name (stmt.Store name value) = name
-stored_name (stmt.StoreIf condition name place value) = name
+stored_name (stmt.StoreIf condition name address value) = name
 
 abbrev pub stored : Module → List (List ℕ)
 stored m = map stored_name (stmts_of m)
@@ -254,7 +246,7 @@ abbrev pub is_clocked : (List ℕ → Option Sort) → Module → Bool
 is_clocked sort m = not (is_some m.edge) || is_of is_clock sort (codes "clk")
 
 abbrev pub fill_is_whole : (List ℕ → Option Sort) → Fill → Bool
-fill_is_whole sort f = f.count == last_place (sort f.name) + 1
+fill_is_whole sort f = f.count == last_address (sort f.name) + 1
 
 abbrev pub are_stored_once : (List ℕ → Option Sort) → Module → Bool
 are_stored_once sort m = all_differ (stored m) && (has_each is_reg (λ name. is_among name (stored m)) m && is_clocked sort m)
@@ -277,7 +269,7 @@ same_each _ _ = false
 abbrev pub same_form : Expr-F (Expr → Bool) → Expr-F Expr → Bool
 same_form (Expr-F.Const c) (Expr-F.Const d) = c.width == d.width && c.value == d.value
 same_form (Expr-F.Whole name) (Expr-F.Whole other) = bytes_eq name other
-same_form (Expr-F.Place name place) (Expr-F.Place other at) = bytes_eq name other && place == at
+same_form (Expr-F.Bit name index) (Expr-F.Bit other at) = bytes_eq name other && index == at
 same_form (Expr-F.Part name high low) (Expr-F.Part other top bottom) = bytes_eq name other && (high == top && low == bottom)
 same_form (Expr-F.Item name e) (Expr-F.Item other f) = bytes_eq name other && e f
 same_form (Expr-F.Join a b more) (Expr-F.Join x y others) = a x && (b y && same_each more others)
@@ -319,42 +311,42 @@ divides_safely _ = true
 
 abbrev pub stmt_divides_safely : Stmt → Bool
 stmt_divides_safely (stmt.Store name value) = holds_inside divides_safely value
-stmt_divides_safely (stmt.StoreIf condition name place value) =
-    holds_inside divides_safely condition && (holds_inside divides_safely place && holds_inside divides_safely value)
+stmt_divides_safely (stmt.StoreIf condition name address value) =
+    holds_inside divides_safely condition && (holds_inside divides_safely address && holds_inside divides_safely value)
 
 abbrev pub are_divided_safely : Module → Bool
 are_divided_safely m = list_all (λ (a : Assign). holds_inside divides_safely a.value) m.assigns && list_all stmt_divides_safely (stmts_of m)
 
--- 7: a memory has 2, 4, 8, .. words, an index in it is as wide as its places, and there are no more than 1,048,576 words in all
+-- 7: a memory has 2, 4, 8, .. words, an address in it is as wide as these need, and there are no more than 1,048,576 words in all
 
 -- the least width, of so many from this one on, in which each of so many addresses has a number
 abbrev pub width_from : ℕ → ℕ → ℕ → Option ℕ
-width_from zero width places = None
-width_from (suc n) width places = if places == 2 ^ width then Some width else width_from n (width + 1) places
+width_from zero width count = None
+width_from (suc n) width count = if count == 2 ^ width then Some width else width_from n (width + 1) count
 
--- how wide an index of a memory is; none where its words are no power of two
-abbrev pub index_width : ℕ → Option ℕ
-index_width last = width_from 20 1 (last + 1)
+-- how wide an address of a memory is; none where its words are no power of two
+abbrev pub address_width : ℕ → Option ℕ
+address_width last = width_from 20 1 (last + 1)
 
-abbrev pub is_index : Option ℕ → Option ℕ → Bool
-is_index (Some wanted) (Some width) = wanted == width
-is_index _ _ = false
+abbrev pub is_address : Option ℕ → Option ℕ → Bool
+is_address (Some wanted) (Some width) = wanted == width
+is_address _ _ = false
 
--- the expression is as wide as the places of the memory of this name
-abbrev pub indexes : (List ℕ → Option Sort) → (List ℕ → ℕ) → List ℕ → Expr → Bool
-indexes sort width name e = is_index (index_width (last_place (sort name))) (expr_width width e)
+-- the expression is as wide as the addresses of the memory of this name
+abbrev pub addresses : (List ℕ → Option Sort) → (List ℕ → ℕ) → List ℕ → Expr → Bool
+addresses sort width name e = is_address (address_width (last_address (sort name))) (expr_width width e)
 
-abbrev pub index_fits : (List ℕ → Option Sort) → (List ℕ → ℕ) → Expr-F Expr → Bool
-index_fits sort width (Expr-F.Item name e) = indexes sort width name e
-index_fits sort width _ = true
+abbrev pub address_fits : (List ℕ → Option Sort) → (List ℕ → ℕ) → Expr-F Expr → Bool
+address_fits sort width (Expr-F.Item name e) = addresses sort width name e
+address_fits sort width _ = true
 
-abbrev pub all_index : (List ℕ → Option Sort) → (List ℕ → ℕ) → Expr → Bool
-all_index sort width e = holds_inside (index_fits sort width) e
+abbrev pub all_address : (List ℕ → Option Sort) → (List ℕ → ℕ) → Expr → Bool
+all_address sort width e = holds_inside (address_fits sort width) e
 
-abbrev pub stmt_indexes : (List ℕ → Option Sort) → (List ℕ → ℕ) → Stmt → Bool
-stmt_indexes sort width (stmt.Store name value) = all_index sort width value
-stmt_indexes sort width (stmt.StoreIf condition name place value) =
-    indexes sort width name place && (all_index sort width condition && (all_index sort width place && all_index sort width value))
+abbrev pub stmt_addresses : (List ℕ → Option Sort) → (List ℕ → ℕ) → Stmt → Bool
+stmt_addresses sort width (stmt.Store name value) = all_address sort width value
+stmt_addresses sort width (stmt.StoreIf condition name address value) =
+    addresses sort width name address && (all_address sort width condition && (all_address sort width address && all_address sort width value))
 
 abbrev pub decl_words : Decl → ℕ
 decl_words (decl.Wire range name) = 0
@@ -364,12 +356,12 @@ decl_words (decl.Memory range name last) = last + 1
 abbrev pub decl_is_whole : Decl → Bool
 decl_is_whole (decl.Wire range name) = true
 decl_is_whole (decl.Reg range name start) = true
-decl_is_whole (decl.Memory range name last) = is_some (index_width last)
+decl_is_whole (decl.Memory range name last) = is_some (address_width last)
 
-abbrev pub are_indexed : (List ℕ → Option Sort) → (List ℕ → ℕ) → Module → Bool
-are_indexed sort width m =
+abbrev pub are_addressed : (List ℕ → Option Sort) → (List ℕ → ℕ) → Module → Bool
+are_addressed sort width m =
     (list_all decl_is_whole m.decls && nat_le (sum_by decl_words m.decls) 1048576)
-    && (list_all (λ (a : Assign). all_index sort width a.value) m.assigns && list_all (stmt_indexes sort width) (stmts_of m))
+    && (list_all (λ (a : Assign). all_address sort width a.value) m.assigns && list_all (stmt_addresses sort width) (stmts_of m))
 
 -- the number of the first test that does not hold, counted from this one
 abbrev pub first_false : ℕ → List Bool → Option ℕ
@@ -379,10 +371,10 @@ first_false n (holds ∷ more) = if holds then first_false (n + 1) more else Som
 -- the first of the rules from the third on that a module of names that are narrow breaks
 abbrev pub last_broken : Module → Option ℕ
 last_broken m =
-    first_false 3 (are_fitting (sort_of m) (width_of m) m ∷ are_assigned_once (sort_of m) m ∷ are_kept_once (sort_of m) m ∷ are_divided_safely m ∷ are_indexed (sort_of m) (width_of m) m ∷ [])
+    first_false 3 (are_fitting (sort_of m) (width_of m) m ∷ are_assigned_once (sort_of m) m ∷ are_kept_once (sort_of m) m ∷ are_divided_safely m ∷ are_addressed (sort_of m) (width_of m) m ∷ [])
 
 -- the first of the seven rules that a module breaks
 abbrev pub first_broken : Module → Option ℕ
 first_broken m =
     first_false 1
-    (are_named m ∷ are_used (sort_of m) m ∷ (are_narrow m && are_fitting (sort_of m) (width_of m) m) ∷ are_assigned_once (sort_of m) m ∷ are_kept_once (sort_of m) m ∷ are_divided_safely m ∷ are_indexed (sort_of m) (width_of m) m ∷ [])
+    (are_named m ∷ are_used (sort_of m) m ∷ (are_narrow m && are_fitting (sort_of m) (width_of m) m) ∷ are_assigned_once (sort_of m) m ∷ are_kept_once (sort_of m) m ∷ are_divided_safely m ∷ are_addressed (sort_of m) (width_of m) m ∷ [])

@@ -65,7 +65,7 @@ impl NameIndex {
         if !are_divided_safely(module) {
             return Ok(Some(6));
         }
-        if !self.are_indexed(module) {
+        if !self.are_addressed(module) {
             return Ok(Some(7));
         }
         Ok(None)

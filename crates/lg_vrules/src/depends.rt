@@ -4,11 +4,11 @@ ghost use Rattle.std.specs.Prelude.{◌≡◌, ◌++◌, true, map, IfOk, OnOk};
 ghost use Rattle.std.specs.List.{flat_map};
 ghost use Rattle.lg_vrules.specs.Rules.{all_differ, assigned};
 ghost use Rattle.lg_vrules.specs.Depends.{names_read};
-ghost use Rattle.lg_vrules.specs.Places.{place_under, place_list, places_of, first_marked_from};
+ghost use Rattle.lg_vrules.specs.Indexes.{index_under, index_list, indexes_of, first_marked_from};
 ghost use Rattle.lg_vrules.specs.Order.{IsDependence};
 
+use crate::indexes::Indexes;
 use crate::once::assigned_names;
-use crate::places::Places;
 use lg_graph::sort;
 use lg_vtree::{Assign, Expr, Memory, Module, Name};
 use sqlite_items::Items;
@@ -17,9 +17,9 @@ use std::alloc::{AllocError, Global};
 /// How the assigns of a module depend on one another.
 #[derive(Debug, Drop)]
 pub enum Dependence {
-    /// Their places in an order in which each stands after those that it reads: none depends on itself.
+    /// Their indexes in an order in which each stands after those that it reads: none depends on itself.
     Ordered(Items<usize>),
-    /// The place of the first whose name depends on itself.
+    /// The index of the first whose name depends on itself.
     Cyclic(usize),
 }
 
@@ -30,8 +30,8 @@ pub fn assign_order(alloc: Global, module: &Module) -> Result<Dependence, Memory
 {
     let assigns = module.assigns.as_slice();
     let names = assigned_names(alloc, assigns)?;
-    let places = Places::of(alloc, names.as_slice())?;
-    let graph = places.graph(alloc, assigns)?;
+    let indexes = Indexes::of(alloc, names.as_slice())?;
+    let graph = indexes.graph(alloc, assigns)?;
     let sorted = sort(alloc, graph.as_slice())?;
     Ok(match first_marked(sorted.cyclic.as_slice()) {
         Some(at) => Dependence::Cyclic(at),
@@ -39,7 +39,7 @@ pub fn assign_order(alloc: Global, module: &Module) -> Result<Dependence, Memory
     })
 }
 
-// The place of the first mark.
+// The index of the first mark.
 fn first_marked(marks: &[bool]) -> Option<usize>
     ensures { result ≡ first_marked_from 0 marks.now }
 {
@@ -51,10 +51,10 @@ fn first_marked(marks: &[bool]) -> Option<usize>
     None
 }
 
-impl Places {
-    // For each assign, the places of the assigns to names that it reads.
+impl Indexes {
+    // For each assign, the indexes of the assigns to names that it reads.
     fn graph(&self, alloc: Global, assigns: &[Assign]) -> Result<Vec<Items<usize>>, AllocError>
-        ensures { IfOk result (λ graph. graph.items ≡ map (λ assign. places_of (place_under self.now) (names_read assign.value)) assigns.now) }
+        ensures { IfOk result (λ graph. graph.items ≡ map (λ assign. indexes_of (index_under self.now) (names_read assign.value)) assigns.now) }
     {
         let mut graph = Vec::with_capacity(alloc, assigns.len())?;
         for assign in assigns {
@@ -65,18 +65,18 @@ impl Places {
         Ok(graph)
     }
 
-    // Adds the places of the assigns to names that an expression reads.
+    // Adds the indexes of the assigns to names that an expression reads.
     #[cycle(reads)]
-    #[tactic(auto, using(crate::proofs::PlaceLemmas::places_both))]
+    #[tactic(auto, using(crate::proofs::IndexesLemmas::indexes_both))]
     fn put_reads(&self, reads: &mut Items<usize>, expr: &Expr) -> Result<(), AllocError>
-        ensures { OnOk result (reads.new ≡ reads.old ++ places_of (place_under self.now) (names_read expr.now)) }
+        ensures { OnOk result (reads.new ≡ reads.old ++ indexes_of (index_under self.now) (names_read expr.now)) }
     {
         match expr {
             Expr::Const(_) => Ok(()),
-            Expr::Whole(name) | Expr::Place(name, _) | Expr::Part(name, _, _) => {
-                self.put_place(reads, name)
+            Expr::Whole(name) | Expr::Bit(name, _) | Expr::Part(name, _, _) => {
+                self.put_index(reads, name)
             }
-            Expr::Item(_, place) => self.put_reads(reads, place.get()),
+            Expr::Item(_, address) => self.put_reads(reads, address.get()),
             Expr::Join(first, second, more) => {
                 self.put_reads(reads, first.get())?;
                 self.put_reads(reads, second.get())?;
@@ -96,9 +96,9 @@ impl Places {
     }
 
     #[cycle(reads)]
-    #[tactic(auto, using(crate::proofs::PlaceLemmas::places_both))]
+    #[tactic(auto, using(crate::proofs::IndexesLemmas::indexes_both))]
     fn put_all(&self, reads: &mut Items<usize>, exprs: &[Expr]) -> Result<(), AllocError>
-        ensures { OnOk result (reads.new ≡ reads.old ++ places_of (place_under self.now) (flat_map (λ names. names) (map names_read exprs.now))) }
+        ensures { OnOk result (reads.new ≡ reads.old ++ indexes_of (index_under self.now) (flat_map (λ names. names) (map names_read exprs.now))) }
     {
         for expr in exprs {
             self.put_reads(reads, expr)?;
@@ -106,11 +106,11 @@ impl Places {
         Ok(())
     }
 
-    fn put_place(&self, reads: &mut Items<usize>, name: &Name) -> Result<(), AllocError>
-        ensures { OnOk result (reads.new ≡ reads.old ++ place_list (place_under self.now name.now)) }
+    fn put_index(&self, reads: &mut Items<usize>, name: &Name) -> Result<(), AllocError>
+        ensures { OnOk result (reads.new ≡ reads.old ++ index_list (index_under self.now name.now)) }
     {
-        if let Some(place) = self.get(name.as_str()) {
-            reads.push(place)?;
+        if let Some(index) = self.get(name.as_str()) {
+            reads.push(index)?;
         }
         Ok(())
     }

@@ -35,10 +35,10 @@ fn stmt_divides_safely(stmt: &Stmt) -> bool
         Stmt::Store { value, .. } => divides_safely(value),
         Stmt::StoreIf {
             condition,
-            place,
+            address,
             value,
             ..
-        } => divides_safely(condition) & (divides_safely(place) & divides_safely(value)),
+        } => divides_safely(condition) & (divides_safely(address) & divides_safely(value)),
     }
 }
 
@@ -50,12 +50,12 @@ fn same(expr: &Expr, other: &Expr) -> bool
     match (expr, other) {
         (Expr::Const(a), Expr::Const(b)) => a.width == b.width && a.value == b.value,
         (Expr::Whole(a), Expr::Whole(b)) => a.as_str() == b.as_str(),
-        (Expr::Place(a, place), Expr::Place(b, at)) => a.as_str() == b.as_str() && place == at,
+        (Expr::Bit(a, index), Expr::Bit(b, at)) => a.as_str() == b.as_str() && index == at,
         (Expr::Part(a, high, low), Expr::Part(b, top, bottom)) => {
             a.as_str() == b.as_str() && high == top && low == bottom
         }
-        (Expr::Item(a, place), Expr::Item(b, at)) => {
-            a.as_str() == b.as_str() && same(place.get(), at.get())
+        (Expr::Item(a, address), Expr::Item(b, at)) => {
+            a.as_str() == b.as_str() && same(address.get(), at.get())
         }
         (Expr::Join(a, b, more), Expr::Join(x, y, others)) => {
             same(a.get(), x.get())
@@ -95,8 +95,8 @@ fn divides_safely(expr: &Expr) -> bool
     ensures { result ≡ holds_inside divides_safely expr.now }
 {
     match expr {
-        Expr::Const(_) | Expr::Whole(_) | Expr::Place(_, _) | Expr::Part(_, _, _) => true,
-        Expr::Item(_, place) => divides_safely(place.get()),
+        Expr::Const(_) | Expr::Whole(_) | Expr::Bit(_, _) | Expr::Part(_, _, _) => true,
+        Expr::Item(_, address) => divides_safely(address.get()),
         Expr::Join(first, second, more) => {
             all_divide_safely(more.as_slice())
                 & (divides_safely(first.get()) & divides_safely(second.get()))

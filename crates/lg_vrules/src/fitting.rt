@@ -1,9 +1,9 @@
-//! Widths and places that fit.
+//! Widths, indexes and addresses that fit.
 
 ghost use Rattle.std.specs.Prelude.{◌≡◌, ℕ, ◌&&◌, is_some};
 ghost use Rattle.std.specs.List.{list_all};
 ghost use Rattle.lg_vrules.specs.Known.{sort_under, width_under, AreNarrow};
-ghost use Rattle.lg_vrules.specs.Rules.{expr_width, is_width, constant_of, decl_fits, fill_fits, word_fits, last_place, assign_fits, stmt_fits, are_fitting};
+ghost use Rattle.lg_vrules.specs.Rules.{expr_width, is_width, constant_of, decl_fits, fill_fits, word_fits, last_address, assign_fits, stmt_fits, are_fitting};
 
 use crate::names::{NameIndex, Sort};
 use crate::rules::{fills, stmts, words};
@@ -11,7 +11,7 @@ use crate::widths::constant_fits;
 use lg_vtree::{Assign, Constant, Decl, Expr, Fill, Module, Name, Stmt, Word};
 
 impl NameIndex {
-    /// Whether all widths and places of a module fit.
+    /// Whether all widths, indexes and addresses of a module fit.
     pub fn are_fitting(&self, module: &Module) -> bool
         requires { AreNarrow self.now }
         ensures { result ≡ are_fitting (sort_under self.now) (width_under self.now) «module».now }
@@ -79,12 +79,12 @@ impl NameIndex {
         requires { AreNarrow self.now }
         ensures { result ≡ word_fits (sort_under self.now) (width_under self.now) word.now }
     {
-        word.place <= self.last_place(&word.name) && self.is_constant_of(&word.name, word.value)
+        word.address <= self.last_address(&word.name) && self.is_constant_of(&word.name, word.value)
     }
 
-    /// The last place of a memory; 0 of what is none.
-    pub fn last_place(&self, name: &Name) -> u128
-        ensures { result ≡ last_place (sort_under self.now name.now) }
+    /// The last address of a memory; 0 of what is none.
+    pub fn last_address(&self, name: &Name) -> u128
+        ensures { result ≡ last_address (sort_under self.now name.now) }
     {
         match self.sort(name) {
             Some(Sort::Memory(last)) => last,
@@ -120,19 +120,19 @@ impl NameIndex {
             Stmt::StoreIf {
                 condition,
                 name,
-                place,
+                address,
                 value,
-            } => self.is_width(1, condition) && self.store_fits(name, place, value),
+            } => self.is_width(1, condition) && self.store_fits(name, address, value),
         }
     }
 
-    // Whether the place and the value of a store into a memory fit.
-    fn store_fits(&self, name: &Name, place: &Expr, value: &Expr) -> bool
+    // Whether the address and the value of a store into a memory fit.
+    fn store_fits(&self, name: &Name, address: &Expr, value: &Expr) -> bool
         requires { AreNarrow self.now }
-        ensures { result ≡ (is_some (expr_width (width_under self.now) place.now)
+        ensures { result ≡ (is_some (expr_width (width_under self.now) address.now)
             && is_width (width_under self.now) (width_under self.now name.now) value.now) }
     {
-        self.has_width(place) && self.is_width(self.width_of(name), value)
+        self.has_width(address) && self.is_width(self.width_of(name), value)
     }
 
     // Whether an expression fits, in some width.

@@ -17,7 +17,7 @@ pub enum Sort {
     Output,
     Wire,
     Reg,
-    /// Words from place 0 to a last one.
+    /// Words from address 0 to a last one.
     Memory(u128),
 }
 

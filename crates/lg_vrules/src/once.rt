@@ -2,13 +2,14 @@
 
 ghost use Rattle.std.specs.Prelude.{◌≡◌, ◌||◌, not, IfOk, map};
 ghost use Rattle.std.specs.List.{list_all};
-ghost use Rattle.lg_vrules.specs.Known.{sort_under, holds, is_target};
+ghost use Rattle.lg_vnames.specs.Sets.{holds};
+ghost use Rattle.lg_vrules.specs.Known.{sort_under, is_target};
 ghost use Rattle.lg_vrules.specs.Things.{things, port_thing, decl_thing, is_assignable, is_reg, is_memory};
 ghost use Rattle.lg_vrules.specs.Rules.{is_of, has_each, assigned, stored_name, are_assigned_once, is_clocked, fill_is_whole, are_stored_once, are_filled_once};
 
-use crate::name_set::NameSet;
 use crate::names::{NameIndex, Sort, sort_of_port, thing_of_decl};
 use crate::rules::{fills, stmts};
+use lg_vnames::NameSet;
 use lg_vtree::{Assign, Decl, Fill, Memory, Module, Name, Port, Stmt};
 use std::alloc::Global;
 
@@ -35,33 +36,31 @@ impl Target {
     }
 }
 
-impl NameSet {
-    // Whether each thing of a module in this target is in the set.
-    fn has_each(&self, target: Target, module: &Module) -> bool
-        ensures { result ≡ has_each (is_target target) (holds self.now) «module».now }
-    {
-        self.has_ports(target, module.ports.as_slice())
-            && self.has_decls(target, module.decls.as_slice())
-    }
+// Whether each thing of a module in this target is in a set.
+fn has_each(set: &NameSet, target: Target, module: &Module) -> bool
+    ensures { result ≡ has_each (is_target target) (holds set.now) «module».now }
+{
+    has_ports(set, target, module.ports.as_slice())
+        && has_decls(set, target, module.decls.as_slice())
+}
 
-    fn has_ports(&self, target: Target, ports: &[Port]) -> bool
-        ensures { result ≡ list_all (λ port. not (is_target target (port_thing port).1.sort) || holds self.now port.name) ports.now }
-    {
-        ports.iter().all(|port| !target.is(sort_of_port(port)) || self.contains(port.name.as_str()))
-    }
+fn has_ports(set: &NameSet, target: Target, ports: &[Port]) -> bool
+    ensures { result ≡ list_all (λ port. not (is_target target (port_thing port).1.sort) || holds set.now port.name) ports.now }
+{
+    ports.iter().all(|port| !target.is(sort_of_port(port)) || set.contains(port.name.as_str()))
+}
 
-    fn has_decls(&self, target: Target, decls: &[Decl]) -> bool
-        ensures { result ≡ list_all (λ decl. not (is_target target (decl_thing decl).1.sort) || holds self.now (decl_thing decl).0) decls.now }
-    {
-        decls.iter().all(|decl| self.has_decl(target, decl))
-    }
+fn has_decls(set: &NameSet, target: Target, decls: &[Decl]) -> bool
+    ensures { result ≡ list_all (λ decl. not (is_target target (decl_thing decl).1.sort) || holds set.now (decl_thing decl).0) decls.now }
+{
+    decls.iter().all(|decl| has_decl(set, target, decl))
+}
 
-    fn has_decl(&self, target: Target, decl: &Decl) -> bool
-        ensures { result ≡ (not (is_target target (decl_thing decl.now).1.sort) || holds self.now (decl_thing decl.now).0) }
-    {
-        let (name, thing) = thing_of_decl(decl);
-        !target.is(thing.sort) || self.contains(name.as_str())
-    }
+fn has_decl(set: &NameSet, target: Target, decl: &Decl) -> bool
+    ensures { result ≡ (not (is_target target (decl_thing decl.now).1.sort) || holds set.now (decl_thing decl.now).0) }
+{
+    let (name, thing) = thing_of_decl(decl);
+    !target.is(thing.sort) || set.contains(name.as_str())
 }
 
 impl NameIndex {
@@ -71,7 +70,9 @@ impl NameIndex {
     {
         let names = stored_names(alloc, stmts(module))?;
         match NameSet::of(alloc, names.as_slice())? {
-            Some(stored) => Ok(stored.has_each(Target::Stored, module) && self.is_clocked(module)),
+            Some(stored) => Ok(
+                has_each(&stored, Target::Stored, module) && self.is_clocked(module),
+            ),
             None => Ok(false),
         }
     }
@@ -89,7 +90,7 @@ impl NameIndex {
         let names = filled_names(alloc, fills(module))?;
         match NameSet::of(alloc, names.as_slice())? {
             Some(filled) => Ok(
-                self.are_whole(fills(module)) && filled.has_each(Target::Filled, module),
+                self.are_whole(fills(module)) && has_each(&filled, Target::Filled, module),
             ),
             None => Ok(false),
         }
@@ -104,7 +105,7 @@ impl NameIndex {
     fn is_whole(&self, fill: &Fill) -> bool
         ensures { result ≡ fill_is_whole (sort_under self.now) fill.now }
     {
-        fill.count.checked_sub(1) == Some(self.last_place(&fill.name))
+        fill.count.checked_sub(1) == Some(self.last_address(&fill.name))
     }
 
     /// Whether wires and outputs, and they alone, have one assign each.
@@ -115,7 +116,7 @@ impl NameIndex {
         let names = assigned_names(alloc, assigns)?;
         match NameSet::of(alloc, names.as_slice())? {
             Some(assigned) => Ok(
-                self.are_assignable(assigns) && assigned.has_each(Target::Assigned, module),
+                self.are_assignable(assigns) && has_each(&assigned, Target::Assigned, module),
             ),
             None => Ok(false),
         }

@@ -18,10 +18,10 @@ impl NameIndex {
     {
         match expr {
             Expr::Const(_) => true,
-            Expr::Whole(name) | Expr::Place(name, _) | Expr::Part(name, _, _) => {
+            Expr::Whole(name) | Expr::Bit(name, _) | Expr::Part(name, _, _) => {
                 self.is_readable(name)
             }
-            Expr::Item(name, place) => self.is_memory(name) && self.reads_declared(place.get()),
+            Expr::Item(name, address) => self.is_memory(name) && self.reads_declared(address.get()),
             Expr::Join(first, second, more) => {
                 self.reads_declared(first.get())
                     && self.reads_declared(second.get())
@@ -101,12 +101,12 @@ impl NameIndex {
             Stmt::StoreIf {
                 condition,
                 name,
-                place,
+                address,
                 value,
             } => {
                 self.is_memory(name)
                     && self.reads_declared(condition)
-                    && self.reads_declared(place)
+                    && self.reads_declared(address)
                     && self.reads_declared(value)
             }
         }

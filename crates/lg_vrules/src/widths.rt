@@ -1,8 +1,8 @@
-//! Widths of expressions, and places that lie within them.
+//! Widths of expressions, and indexes that lie within them.
 
 ghost use Rattle.std.specs.Prelude.{◌≡◌, ◌≤◌, ◌*◌, ◌^◌, nat_lt, length, map, IfSome};
 ghost use Rattle.lg_vrules.specs.Known.{width_under, AreNarrow};
-ghost use Rattle.lg_vrules.specs.Rules.{operator_width, constant_fits, constant_width, place_width, part_width, at_most_128, is_shift, binary_width, choice_width, sum_of, expr_width};
+ghost use Rattle.lg_vrules.specs.Rules.{operator_width, constant_fits, constant_width, bit_width, part_width, at_most_128, is_shift, binary_width, choice_width, sum_of, expr_width};
 
 use crate::names::NameIndex;
 use lg_vtree::{Constant, Expr, Name, Operator};
@@ -11,7 +11,7 @@ use lg_vtree::{Constant, Expr, Name, Operator};
 pub const GREATEST_WIDTH: u128 = 128;
 
 impl NameIndex {
-    /// The width of an expression in which all widths and places fit; none of another.
+    /// The width of an expression in which all widths and indexes fit; none of another.
     #[cycle(widths)]
     pub fn width(&self, expr: &Expr) -> Option<u128>
         requires { AreNarrow self.now }
@@ -21,10 +21,10 @@ impl NameIndex {
         match expr {
             Expr::Const(constant) => constant_width(*constant),
             Expr::Whole(name) => Some(self.width_of(name)),
-            Expr::Place(name, place) => place_width(self.width_of(name), *place),
+            Expr::Bit(name, index) => bit_width(self.width_of(name), *index),
             Expr::Part(name, high, low) => part_width(self.width_of(name), *high, *low),
-            Expr::Item(name, place) => {
-                self.width(place.get())?;
+            Expr::Item(name, address) => {
+                self.width(address.get())?;
                 Some(self.width_of(name))
             }
             Expr::Join(first, second, more) => {
@@ -98,11 +98,11 @@ fn constant_width(constant: Constant) -> Option<u128>
     }
 }
 
-fn place_width(width: u128, place: u128) -> Option<u128>
-    ensures value { result ≡ place_width width place }
+fn bit_width(width: u128, index: u128) -> Option<u128>
+    ensures value { result ≡ bit_width width index }
     ensures narrow { IfSome result (λ width. width ≤ 128) }
 {
-    if 1 < width && place < width {
+    if 1 < width && index < width {
         Some(1)
     } else {
         None

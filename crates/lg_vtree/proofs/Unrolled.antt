@@ -7,7 +7,7 @@ use Rattle.lg_vtree.specs.declared.expr.Operator.{Operator}
 use Rattle.lg_vtree.specs.declared.expr.Expr.{Expr, fold-Expr, roll-Expr, out-Expr, roll-out-Expr}
 use Rattle.lg_vtree.specs.declared.expr.Expr.TheFolds.{fold-roll-Expr}
 use Rattle.lg_vtree.specs.declared.expr.Expr.TheOpen.{Expr-F}
-use Rattle.lg_vtree.specs.declared.expr.Expr.TheVariants.{rolls-Const, rolls-Whole, rolls-Place, rolls-Part, rolls-Item, rolls-Join, rolls-Not, rolls-Binary, rolls-Choice}
+use Rattle.lg_vtree.specs.declared.expr.Expr.TheVariants.{rolls-Const, rolls-Whole, rolls-Bit, rolls-Part, rolls-Item, rolls-Join, rolls-Not, rolls-Binary, rolls-Choice}
 use Rattle.lg_vtree.specs.declared.expr.Expr.TheVariants as expr
 use Rattle.lg_vtree.specs.Grammar.{Token, Fixed, Named, Sized, form_tokens, expr_tokens}
 use Rattle.lg_vtree.specs.Depth.{greatest, form_depth, depth}
@@ -28,8 +28,8 @@ tokens-Const c = tokens-roll (Expr-F.Const c) (expr.Const c) (rolls-Const c)
 pub tokens-Whole : (name : List ℕ) → expr_tokens (expr.Whole name) ≡ Named name ∷ []
 tokens-Whole name = tokens-roll (Expr-F.Whole name) (expr.Whole name) (rolls-Whole name)
 
-pub tokens-Place : (name : List ℕ) (place : ℕ) → expr_tokens (expr.Place name place) ≡ form_tokens (Expr-F.Place name place)
-tokens-Place name place = tokens-roll (Expr-F.Place name place) (expr.Place name place) (rolls-Place name place)
+pub tokens-Bit : (name : List ℕ) (index : ℕ) → expr_tokens (expr.Bit name index) ≡ form_tokens (Expr-F.Bit name index)
+tokens-Bit name index = tokens-roll (Expr-F.Bit name index) (expr.Bit name index) (rolls-Bit name index)
 
 pub tokens-Part : (name : List ℕ) (high low : ℕ) → expr_tokens (expr.Part name high low) ≡ form_tokens (Expr-F.Part name high low)
 tokens-Part name high low = tokens-roll (Expr-F.Part name high low) (expr.Part name high low) (rolls-Part name high low)
@@ -87,7 +87,7 @@ some_depth e h = subst (λ x. depth x ≤ 0 → ⊥) (roll-out-Expr e) (by_form 
     by_form : (f : Expr-F Expr) → depth (roll-Expr f) ≤ 0 → ⊥
     by_form (Expr-F.Const c) h = omega (arith, h, depth-roll (Expr-F.Const c) (roll-Expr (Expr-F.Const c)) refl)
     by_form (Expr-F.Whole name) h = omega (arith, h, depth-roll (Expr-F.Whole name) (roll-Expr (Expr-F.Whole name)) refl)
-    by_form (Expr-F.Place name place) h = omega (arith, h, depth-roll (Expr-F.Place name place) (roll-Expr (Expr-F.Place name place)) refl)
+    by_form (Expr-F.Bit name index) h = omega (arith, h, depth-roll (Expr-F.Bit name index) (roll-Expr (Expr-F.Bit name index)) refl)
     by_form (Expr-F.Part name high low) h = omega (arith, h, depth-roll (Expr-F.Part name high low) (roll-Expr (Expr-F.Part name high low)) refl)
     by_form (Expr-F.Item name e) h = omega (arith, h, depth-roll (Expr-F.Item name e) (roll-Expr (Expr-F.Item name e)) refl)
     by_form (Expr-F.Join a b more) h = omega (arith, h, depth-roll (Expr-F.Join a b more) (roll-Expr (Expr-F.Join a b more)) refl)

@@ -15,7 +15,7 @@ greatest (n ∷ more) = max n (greatest more)
 abbrev pub form_depth : Expr-F ℕ → ℕ
 form_depth (Expr-F.Const c) = 1
 form_depth (Expr-F.Whole name) = 1
-form_depth (Expr-F.Place name place) = 1
+form_depth (Expr-F.Bit name index) = 1
 form_depth (Expr-F.Part name high low) = 1
 form_depth (Expr-F.Item name e) = e + 1
 form_depth (Expr-F.Join a b more) = greatest (a ∷ b ∷ more) + 1
@@ -28,7 +28,7 @@ depth e = fold-Expr ℕ form_depth e
 
 abbrev pub stmt_depth : Stmt → ℕ
 stmt_depth (stmt.Store name value) = depth value
-stmt_depth (stmt.StoreIf condition name place value) = max (depth condition) (max (depth place) (depth value))
+stmt_depth (stmt.StoreIf condition name address value) = max (depth condition) (max (depth address) (depth value))
 
 abbrev pub edge_depth : Option Edge → ℕ
 edge_depth None = 0

@@ -75,7 +75,7 @@ range_tokens (Some high) = Fixed (codes "[") ∷ Number high ∷ Fixed (codes ":
 abbrev pub form_tokens : Expr-F (List Token) → List Token
 form_tokens (Expr-F.Const c) = Sized c ∷ []
 form_tokens (Expr-F.Whole name) = Named name ∷ []
-form_tokens (Expr-F.Place name place) = Named name ∷ Fixed (codes "[") ∷ Number place ∷ Fixed (codes "]") ∷ []
+form_tokens (Expr-F.Bit name index) = Named name ∷ Fixed (codes "[") ∷ Number index ∷ Fixed (codes "]") ∷ []
 form_tokens (Expr-F.Part name high low) =
     Named name ∷ Fixed (codes "[") ∷ Number high ∷ Fixed (codes ":") ∷ Number low ∷ Fixed (codes "]") ∷ []
 form_tokens (Expr-F.Item name e) = Named name ∷ Fixed (codes "[") ∷ (e ++ Fixed (codes "]") ∷ [])
@@ -120,7 +120,7 @@ fill_tokens f =
     loop_tokens f.count ++ Named f.name ∷ Fixed (codes "[") ∷ Fixed (codes "k") ∷ Fixed (codes "]") ∷ Fixed (codes "=") ∷ Sized f.value ∷ Fixed (codes ";") ∷ []
 
 abbrev pub word_tokens : Word → List Token
-word_tokens w = Named w.name ∷ Fixed (codes "[") ∷ Number w.place ∷ Fixed (codes "]") ∷ Fixed (codes "=") ∷ Sized w.value ∷ Fixed (codes ";") ∷ []
+word_tokens w = Named w.name ∷ Fixed (codes "[") ∷ Number w.address ∷ Fixed (codes "]") ∷ Fixed (codes "=") ∷ Sized w.value ∷ Fixed (codes ";") ∷ []
 
 abbrev pub init_tokens : Option Init → List Token
 init_tokens None = []
@@ -137,9 +137,9 @@ edge_token Falling = Fixed (codes "negedge")
 
 abbrev pub stmt_tokens : Stmt → List Token
 stmt_tokens (stmt.Store name value) = Named name ∷ Fixed (codes "<=") ∷ (expr_tokens value ++ Fixed (codes ";") ∷ [])
-stmt_tokens (stmt.StoreIf condition name place value) =
+stmt_tokens (stmt.StoreIf condition name address value) =
     Fixed (codes "if") ∷ Fixed (codes "(") ∷ (expr_tokens condition ++ Fixed (codes ")") ∷ Named name ∷ Fixed (codes "[")
-    ∷ (expr_tokens place ++ Fixed (codes "]") ∷ Fixed (codes "<=") ∷ (expr_tokens value ++ Fixed (codes ";") ∷ [])))
+    ∷ (expr_tokens address ++ Fixed (codes "]") ∷ Fixed (codes "<=") ∷ (expr_tokens value ++ Fixed (codes ";") ∷ [])))
 
 abbrev pub edge_tokens : Option Edge → List Token
 edge_tokens None = []

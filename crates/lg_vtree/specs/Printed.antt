@@ -55,7 +55,7 @@ after_commas texts = flat_map (λ text. codes ", " ++ text) texts
 abbrev pub form_text : Expr-F (List ℕ) → List ℕ
 form_text (Expr-F.Const c) = constant_text c
 form_text (Expr-F.Whole name) = name
-form_text (Expr-F.Place name place) = name ++ codes "[" ++ decimal place ++ codes "]"
+form_text (Expr-F.Bit name index) = name ++ codes "[" ++ decimal index ++ codes "]"
 form_text (Expr-F.Part name high low) = name ++ codes "[" ++ decimal high ++ codes ":" ++ decimal low ++ codes "]"
 form_text (Expr-F.Item name e) = name ++ codes "[" ++ e ++ codes "]"
 form_text (Expr-F.Join a b more) = codes "{" ++ a ++ codes ", " ++ b ++ after_commas more ++ codes "}"
@@ -93,7 +93,7 @@ unfoldable pub fill_text : Fill → List ℕ
 fill_text f = loop_text f.count ++ f.name ++ codes "[k] = " ++ constant_text f.value ++ codes ";\n"
 
 abbrev pub word_text : Word → List ℕ
-word_text w = codes "    " ++ w.name ++ codes "[" ++ decimal w.place ++ codes "] = " ++ constant_text w.value ++ codes ";\n"
+word_text w = codes "    " ++ w.name ++ codes "[" ++ decimal w.address ++ codes "] = " ++ constant_text w.value ++ codes ";\n"
 
 -- the fills and the words
 abbrev pub starts_text : Init → List ℕ
@@ -113,8 +113,8 @@ always_text Falling = codes "  always @(negedge clk) begin\n"
 
 abbrev pub stmt_text : Stmt → List ℕ
 stmt_text (stmt.Store name value) = codes "    " ++ name ++ codes " <= " ++ expr_text value ++ codes ";\n"
-stmt_text (stmt.StoreIf condition name place value) =
-    codes "    if (" ++ expr_text condition ++ codes ") " ++ name ++ codes "[" ++ expr_text place ++ codes "] <= " ++ expr_text value ++ codes ";\n"
+stmt_text (stmt.StoreIf condition name address value) =
+    codes "    if (" ++ expr_text condition ++ codes ") " ++ name ++ codes "[" ++ expr_text address ++ codes "] <= " ++ expr_text value ++ codes ";\n"
 
 abbrev pub edge_text : Option Edge → List ℕ
 edge_text None = []

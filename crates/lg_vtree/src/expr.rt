@@ -75,8 +75,8 @@ pub enum Expr {
     Const(Constant),
     /// `name`
     Whole(Name),
-    /// `name[place]`
-    Place(Name, u128),
+    /// `name[index]`
+    Bit(Name, u128),
     /// `name[high:low]`
     Part(Name, u128, u128),
     /// `name[e]`, a word of a memory.

@@ -34,7 +34,7 @@ pub enum Decl {
         name: Name,
         start: Constant,
     },
-    /// `reg [range] name [0:last];`, words from place 0 to `last`.
+    /// `reg [range] name [0:last];`, words from address 0 to `last`.
     Memory {
         range: Range,
         name: Name,
@@ -50,11 +50,11 @@ pub struct Fill {
     pub value: Constant,
 }
 
-/// `name[place] = value;`
+/// `name[address] = value;`
 #[derive(Debug, Drop)]
 pub struct Word {
     pub name: Name,
-    pub place: u128,
+    pub address: u128,
     pub value: Constant,
 }
 
@@ -89,11 +89,11 @@ pub enum Stmt {
         name: Name,
         value: Expr,
     },
-    /// `if (condition) name[place] <= value;`, for a memory.
+    /// `if (condition) name[address] <= value;`, for a memory.
     StoreIf {
         condition: Expr,
         name: Name,
-        place: Expr,
+        address: Expr,
         value: Expr,
     },
 }

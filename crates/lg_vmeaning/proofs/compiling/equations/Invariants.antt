@@ -4,5 +4,5 @@ use Rattle.lg_vmeaning.specs.ByName.{term_by}
 use Rattle.lg_vmeaning.proofs.compiling.equations.Given as goal
 
 -- the terms so far
-abbrev pub invariant-loop-place : goal.invariant-loop-place
-invariant-loop-place l = l.terms ≡ map (λ assign. term_by l.resolver assign.value) (filter_map (slice_get l.assigns) (take l.place-index l.order))
+abbrev pub invariant-loop-index : goal.invariant-loop-index
+invariant-loop-index l = l.terms ≡ map (λ assign. term_by l.resolver assign.value) (filter_map (slice_get l.assigns) (take l.index-index l.order))

@@ -11,7 +11,7 @@ abbrev pub invariant-loop-name : goal.invariant-loop-name
 invariant-loop-name l = map (λ name. name.now) l.names.items ≡ map (λ line. line.name) l.inputs ++ map (λ name. name.now) (take l.name-index l.registers)
 
 -- and what the assigns give, so far
-abbrev pub invariant-loop-place : goal.invariant-loop-place
-invariant-loop-place l =
+abbrev pub invariant-loop-index : goal.invariant-loop-index
+invariant-loop-index l =
     map (λ name. name.now) l.names.items
-    ≡ map (λ line. line.name) l.inputs ++ map (λ name. name.now) l.registers ++ map (λ assign. assign.name) (filter_map (slice_get l.assigns) (take l.place-index l.order))
+    ≡ map (λ line. line.name) l.inputs ++ map (λ name. name.now) l.registers ++ map (λ assign. assign.name) (filter_map (slice_get l.assigns) (take l.index-index l.order))

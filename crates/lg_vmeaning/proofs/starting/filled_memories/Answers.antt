@@ -4,7 +4,7 @@ use Rattle.lg_vtree.specs.declared.module.Decl.{Decl}
 use Rattle.lg_vtree.specs.declared.module.Decl.TheVariants as decl
 use Rattle.lg_vtree.specs.declared.module.Fill.{Fill}
 use Rattle.lg_vtree.specs.declared.module.Module.{Module}
-use Rattle.lg_vrules.specs.Places.{KnowsPlaces}
+use Rattle.lg_vrules.specs.Indexes.{KnowsIndexes}
 use Rattle.lg_vrules.specs.Rules.{all_differ, filled, fills_of}
 use Rattle.lg_vmeaning.specs.Rows.{filled_with}
 use Rattle.lg_vmeaning.specs.Starting.{filled_memory, filled_by}
@@ -40,11 +40,11 @@ loop-decl-preserved c =
     let m = c.args.«module».now in
     let i = c.loop-decl.decl-index in
     let d = c.decl-item.result in
-    let places = c.in_ok-places.places in
+    let indexes = c.in_ok-indexes.indexes in
     let told : map (λ name. name.now) c.in_ok-names.names.items ≡ map (λ (f : Fill). f.name) c.fills.result.now = c.in_ok-names.ensures in
     let names : map (λ name. name.now) c.as_slice.result.now ≡ filled m =
     ap (λ (names : List (Bor (List ℕ))). map (λ name. name.now) names) c.as_slice.ensures.value ∙ (told ∙ ap (map (λ (f : Fill). f.name)) c.fills.ensures) in
-    let knows = subst (λ (names : List (List ℕ)). KnowsPlaces names places) names c.in_ok-places.ensures in
+    let knows = subst (λ (names : List (List ℕ)). KnowsIndexes names indexes) names c.in_ok-indexes.ensures in
     let inside = subst (λ (decls : List Decl). i < length decls) c.as_slice-decl-items.ensures c.loop-decl-test.true in
     let here = c.decl-item.is ∙ ap (λ (decls : List Decl). get_or decls i d) c.as_slice-decl-items.ensures in
     elim c.match-decl.branch [
@@ -53,8 +53,8 @@ loop-decl-preserved c =
           let name = w.in-Memory.name in
           let value : w.filled_with-value.result ≡ filled_with m name =
           w.filled_with-value.ensures
-          ∙ (ap (λ (fills : List Fill). filled_by places fills w.as_str.result.now) w.fills-in-Memory.ensures
-          ∙ (ap (filled_by places (fills_of m)) w.as_str.ensures.spelling ∙ filled_is m places name knows)) in
+          ∙ (ap (λ (fills : List Fill). filled_by indexes fills w.as_str.result.now) w.fills-in-Memory.ensures
+          ∙ (ap (filled_by indexes (fills_of m)) w.as_str.ensures.spelling ∙ filled_is m indexes name knows)) in
           let words : w.from_vec.result ≡ replicate (last + 1) (filled_with m name) =
           w.from_vec.ensures ∙ (w.in_ok-vec.ensures.items_if_clones_equal (λ y e. e) ∙ ap (replicate (last + 1)) value) in
           let more = drawn_more (filled_memory m) m.decls i d (replicate (last + 1) (filled_with m name)) inside here (ap (filled_memory m) w.in-Memory.is) in

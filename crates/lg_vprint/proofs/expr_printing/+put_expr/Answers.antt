@@ -1,6 +1,6 @@
 use Rattle.std.proofs.Common.{rules}
 use Rattle.lg_vprint.proofs.Parts.{join_from_parts}
-use Rattle.lg_vprint.proofs.Forms.{place_printed, part_printed, item_printed, not_printed, binary_printed, choice_printed, join_begun}
+use Rattle.lg_vprint.proofs.Forms.{bit_printed, part_printed, item_printed, not_printed, binary_printed, choice_printed, join_begun}
 use Rattle.lg_vprint.proofs.expr_printing.+put_expr.Goals as goal
 
 pub loop-other-init : goal.loop-other-init
@@ -10,9 +10,9 @@ loop-other-init t c = (
   λ m. search (rules, join_from_parts, m),
 )
 
-pub returns-in_ok-put_number-in-Place-clause-text : goal.returns-in_ok-put_number-in-Place-clause-text
-returns-in_ok-put_number-in-Place-clause-text t c =
-    place_printed c.put-in-Place.result _ _ _ _ _ _ _ c.in-Place.is c.in_ok-put_open-in-Place.ensures.text c.in_ok-put_number-in-Place.ensures.text c.put-in-Place.ensures
+pub returns-in_ok-put_number-in-Bit-clause-text : goal.returns-in_ok-put_number-in-Bit-clause-text
+returns-in_ok-put_number-in-Bit-clause-text t c =
+    bit_printed c.put-in-Bit.result _ _ _ _ _ _ _ c.in-Bit.is c.in_ok-put_open-in-Bit.ensures.text c.in_ok-put_number-in-Bit.ensures.text c.put-in-Bit.ensures
 
 pub returns-in_ok-put_number-in-Part-2-clause-text : goal.returns-in_ok-put_number-in-Part-2-clause-text
 returns-in_ok-put_number-in-Part-2-clause-text t c =

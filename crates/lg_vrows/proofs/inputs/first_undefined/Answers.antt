@@ -18,7 +18,7 @@ returns-then-not-is_defined c =
       row = row;
       after = drop (at + 1) rows;
       parts = sym (take-append-drop at rows) ∙ ap (λ (rest : List (List CaredBits)). take at rows ++ rest) (drop_more rows at row c.loop-at-test.true ∙ ap (λ (r : List CaredBits). r ∷ drop (at + 1) rows) (sym c.index-rows-at.is));
-      place = ap (λ (n : ℕ). n + 1) (sym (length-take-le at rows short));
+      counted = ap (λ (n : ℕ). n + 1) (sym (length-take-le at rows short));
       defined = c.loop-at.invariant;
       undefined = λ defined. false≢true (sym c.if-not-is_defined.true ∙ c.is_defined.ensures.1 (subst IsDefinedRow (sym c.as_slice.ensures) defined));
     }

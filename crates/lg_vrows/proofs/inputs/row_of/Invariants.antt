@@ -3,5 +3,5 @@ use Rattle.lg_vrows.proofs.InputLemmas.{AreInputsTo}
 use Rattle.lg_vrows.proofs.inputs.row_of.Given as goal
 
 -- the columns so far have given their numbers
-abbrev pub invariant-loop-place : goal.invariant-loop-place
-invariant-loop-place l = AreInputsTo (length l.yielded) l.inputs l.places l.row l.numbers.items
+abbrev pub invariant-loop-index : goal.invariant-loop-index
+invariant-loop-index l = AreInputsTo (length l.yielded) l.inputs l.indexes l.row l.numbers.items

@@ -7,13 +7,13 @@ use Rattle.lg_vrows.specs.Text.{binary}
 use Rattle.lg_vrows.proofs.TextLemmas.{digit_more}
 use Rattle.lg_vrows.proofs.text.put_binary.Goals as goal
 
-pub loop-place-preserved : goal.loop-place-preserved
-loop-place-preserved c =
+pub loop-index-preserved : goal.loop-index-preserved
+loop-index-preserved c =
     let width = c.args.width in
-    let place = c.loop-place.place in
+    let index = c.loop-index.index in
     let bit : Bit = c.bit.result in
-    let at : slice_get (word_of_number width c.args.number) (width - 1 - place) ≡ Some bit = ap (λ (word : List Bit). slice_get word (width - 1 - place)) (sym c.from_number-word.ensures.bits) ∙ c.bit.ensures in
+    let at : slice_get (word_of_number width c.args.number) (width - 1 - index) ≡ Some bit = ap (λ (word : List Bit). slice_get word (width - 1 - index)) (sym c.from_number-word.ensures.bits) ∙ c.bit.ensures in
     c.in_ok-push.ensures.items
-    ∙ ((λ k. c.loop-place.invariant k ++ c.digit.ensures k ∷ [])
-    ∙ (append_assoc c.args.text.now.items (take place (binary width c.args.number)) ((48 + digit_of bit) ∷ [])
-    ∙ ap (λ (digits : List ℕ). c.args.text.now.items ++ digits) (sym (digit_more width c.args.number place bit c.loop-place-test.true at))))
+    ∙ ((λ k. c.loop-index.invariant k ++ c.digit.ensures k ∷ [])
+    ∙ (append_assoc c.args.text.now.items (take index (binary width c.args.number)) ((48 + digit_of bit) ∷ [])
+    ∙ ap (λ (digits : List ℕ). c.args.text.now.items ++ digits) (sym (digit_more width c.args.number index bit c.loop-index-test.true at))))

@@ -1,7 +1,7 @@
 use Rattle.std.proofs.Common.{sym, subst, ◌∙◌}
 use Rattle.lg_vrules.specs.Known.{KnowsThings, IsIndex}
 use Rattle.lg_vrules.specs.Things.{things}
-use Rattle.lg_vrules.proofs.IndexLemmas.{narrow_names}
+use Rattle.lg_vrules.proofs.NameIndexLemmas.{narrow_names}
 use Rattle.lg_vrules.proofs.RuleLemmas.{rules_kept}
 use Rattle.lg_vrules.proofs.broken.checked_names.Goals as goal
 

@@ -1,5 +1,5 @@
 use Rattle.std.proofs.Common.{◌≡◌, drop}
-use Rattle.lg_vrules.specs.Places.{first_marked_from}
+use Rattle.lg_vrules.specs.Indexes.{first_marked_from}
 use Rattle.lg_vrules.proofs.depends.first_marked.Given as goal
 
 -- the marks that are left decide

@@ -16,11 +16,11 @@ loop-term-preserved c =
     let memories = c.args.regs.now.memories in
     let known = c.loop-term.numbers.items in
     let terms = c.as_slice-term-items.result.now in
-    let place = c.loop-term.term-index in
+    let index = c.loop-term.term-index in
     let first : c.as_slice.result.now ≡ known = first_of (cc, search rules) in
     let second : c.as_slice-in-loop-term.result.now ≡ memories = first_of (cc, search rules) in
-    let number : c.number-number.result ≡ term_number known memories (get_or terms place c.term-item.result) =
+    let number : c.number-number.result ≡ term_number known memories (get_or terms index c.term-item.result) =
     c.number-number.ensures ∙ (λ i. term_number (first i) (second i) (c.term-item.is i)) in
     let pushed : c.push-in-loop-term.new.self.items ≡ known ++ c.number-number.result ∷ [] = first_of (cc, search rules) in
-    ap (λ (numbers : List ℕ). run memories numbers (drop (place + 1) terms)) (pushed ∙ ap (λ (n : ℕ). known ++ n ∷ []) number)
-    ∙ (sym (next_equation memories known terms place c.term-item.result c.loop-term-test.true) ∙ c.loop-term.invariant)
+    ap (λ (numbers : List ℕ). run memories numbers (drop (index + 1) terms)) (pushed ∙ ap (λ (n : ℕ). known ++ n ∷ []) number)
+    ∙ (sym (next_equation memories known terms index c.term-item.result c.loop-term-test.true) ∙ c.loop-term.invariant)

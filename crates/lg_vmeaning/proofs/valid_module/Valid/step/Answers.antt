@@ -10,7 +10,7 @@ pub outputs-requires : goal.outputs-requires
 outputs-requires c =
     let v = c.self.inside in
     let compiled = subst (λ (m : Module). IsCompiled m v.order v.inputs v.outputs v.machine) c.self.view_is c.self.invariant in
-    subst (λ (numbers : List ℕ). All (λ (place : ℕ). slice_index_or numbers place 0 < 2 ^ 64) v.machine.outputs) (sym c.as_slice.ensures.value)
+    subst (λ (numbers : List ℕ). All (λ (index : ℕ). slice_index_or numbers index 0 < 2 ^ 64) v.machine.outputs) (sym c.as_slice.ensures.value)
     (outputs_small c.args.self.now v.order v.inputs v.outputs v.machine compiled c.args.regs.now c.requires.regs c.args.row.now c.requires.inputs c.in_ok-numbers.numbers.items c.in_ok-numbers.ensures)
 
 pub returns : goal.returns

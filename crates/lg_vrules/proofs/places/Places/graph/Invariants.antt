@@ -1,9 +1,0 @@
-use Rattle.std.proofs.Common.{◌≡◌, ◌++◌, drop, map}
-use Rattle.lg_vrules.specs.Places.{place_under, places_of}
-use Rattle.lg_vrules.specs.Depends.{names_read}
-use Rattle.lg_vrules.proofs.places.Places.graph.Given as goal
-
--- the nodes so far and those that are left are all
-abbrev pub invariant-loop-assign : goal.invariant-loop-assign
-invariant-loop-assign l =
-    l.graph.items ++ map (λ assign. places_of (place_under l.self) (names_read assign.value)) (drop l.assign-index l.assigns) ≡ map (λ assign. places_of (place_under l.self) (names_read assign.value)) l.assigns
