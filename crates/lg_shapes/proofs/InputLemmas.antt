@@ -42,15 +42,19 @@ length-behind inputs count width k others h =
     let behind : get_or (replicate count width ++ others) (count + k) 0 ≡ get_or others k 0 = rw length-replicate at (get_or-append-add (replicate count width) others k 0) in
     length-word_at inputs (replicate count width ++ others) (count + k) h ∙ behind
 
--- the width of the input behind them, as it is read
+-- the width of the input right behind them
+pub length-select : (inputs : List Word) (count width next : ℕ) (others : List ℕ) → map length inputs ≡ replicate count width ++ next ∷ others → length (word_at inputs count) ≡ next
+length-select inputs count width next others h =
+    let last : count + 0 ≡ count = omega arith in
+    rw last at (length-behind inputs count width 0 (next ∷ others) h)
+
+-- the same, as it is read
 pub length-read_behind : (inputs : List Word) (count width next : ℕ) (others : List ℕ) (word : Word) → map length inputs ≡ replicate count width ++ next ∷ others → word ≡ get_or inputs count word → length word ≡ next
 length-read_behind inputs count width next others word h read =
     let whole : length inputs ≡ count + suc (length others) =
     sym (length-map inputs length) ∙ (ap length h ∙ rw length-replicate at (length-append (replicate count width) (next ∷ others))) in
     let same : get_or inputs count word ≡ word_at inputs count = get_or_default inputs count word [] (omega (arith, whole)) in
-    let last : count + 0 ≡ count = omega arith in
-    let behind : length (word_at inputs count) ≡ next = rw last at (length-behind inputs count width 0 (next ∷ others) h) in
-    ap length (read ∙ same) ∙ behind
+    ap length (read ∙ same) ∙ length-select inputs count width next others h
 
 first_width-of : (words : List Word) (count width : ℕ) → 1 ≤ count → map length words ≡ replicate count width → first_width words ≡ width
 first_width-of words zero width some h = absurd (omega arith)

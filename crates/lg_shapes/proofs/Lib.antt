@@ -1,1 +1,5 @@
+pub mod DefinedLemmas
 pub mod InputLemmas
+pub mod ReadLemmas
+pub mod StepLemmas
+pub mod WidthLemmas

@@ -1,8 +1,8 @@
 -- Gates and buffers with a control: their ports and what they answer. Source: the library reference of Logisim-evolution,
 -- Gates Library (the attributes Output Value and Negate).
-use Rattle.std.specs.Prelude.{ℕ, ◌≤◌, Bool, true, false, List, [], ◌∷◌, length, map, replicate, Option, None, Some, slice_index_or, if◌then◌else◌}
-use Rattle.std.specs.List.{range_with_len}
-use Rattle.lg_value.specs.Word.{IsWidth}
+use Rattle.std.specs.Prelude.{ℕ, ◌≡◌, ◌≤◌, Bool, true, false, List, [], ◌∷◌, length, map, replicate, Option, None, Some, slice_index_or, All}
+use Rattle.std.specs.List.{list_all, list_any, range_with_len}
+use Rattle.lg_value.specs.Word.{IsWidth, IsDefined}
 use Rattle.lg_gates.specs.declared.gates.GateKind.{GateKind}
 use Rattle.lg_gates.specs.Gate.{gate_word}
 use Rattle.lg_gates.specs.Shape.{not_word, buffer_word, controlled_word, shape_word}
@@ -59,3 +59,14 @@ gate_words (Buffer width out) strict attached inputs = shape_word out (buffer_wo
 gate_words (Logic kind width size negated out) strict attached inputs = shape_word out (logic_word kind width negated strict attached inputs) ∷ []
 gate_words (ControlledBuffer width control) strict attached inputs = controlled_word false (word_at inputs 0) (bit_at inputs 1) ∷ []
 gate_words (ControlledInverter width control) strict attached inputs = controlled_word true (word_at inputs 0) (bit_at inputs 1) ∷ []
+
+-- a gate of several inputs has those that it needs: one is attached, and each where the project asks for it
+abbrev pub HasInputs : Gate → Bool → List Bool → Type 0
+HasInputs (Logic kind width size negated out) strict attached =
+    (list_any (λ there. there) attached ≡ true) × (strict ≡ true → list_all (λ there. there) attached ≡ true)
+HasInputs _ strict attached = Unit
+
+-- the inputs that a gate reads are defined: the attached ones of a gate of several, else all
+abbrev pub ReadsDefined : Gate → List Bool → List Word → Type 0
+ReadsDefined (Logic kind width size negated out) attached inputs = (k : ℕ) → slice_index_or attached k false ≡ true → IsDefined (word_at inputs k)
+ReadsDefined _ attached inputs = All IsDefined inputs

@@ -1,8 +1,7 @@
 -- What each shape has and does: its ports, what it holds, what it answers and what that reads. Source: the library reference
 -- of Logisim-evolution.
-use Rattle.std.specs.Prelude.{◌≡◌, ℕ, ◌==◌, nat_lt, Bool, true, false, not, ◌&&◌, ◌||◌, List, [], Option, None}
-use Rattle.lg_gates.specs.declared.outputs.OutForm.{OutForm}
-use Rattle.lg_gates.specs.declared.outputs.OutForm.TheVariants.{ZeroOne}
+use Rattle.std.specs.Prelude.{◌≡◌, ℕ, Bool, List, [], All}
+use Rattle.lg_value.specs.Word.{IsDefined}
 use Rattle.lg_memory.specs.declared.form.StateForm.{StateForm}
 use Rattle.lg_memory.specs.declared.state.State.{State}
 use Rattle.lg_memory.specs.declared.state.State.TheVariants.{None as NoWord}
@@ -15,6 +14,7 @@ use Rattle.lg_shapes.specs.declared.shape.Shape.{Shape}
 use Rattle.lg_shapes.specs.declared.shape.Shape.TheVariants.{Wiring, Gate, Plexer, Arithmetic, Memory}
 use Rattle.lg_shapes.specs.Wiring.{IsWiring, wiring_inputs, wiring_outputs, wiring_words}
 use Rattle.lg_shapes.specs.Gates.{IsGate, gate_inputs, gate_outputs, gate_words}
+use Rattle.lg_shapes.specs.Gates as gates
 use Rattle.lg_shapes.specs.Plexers.{IsPlexer, plexer_inputs, plexer_outputs, plexer_words}
 use Rattle.lg_shapes.specs.Arithmetic.{IsArithmetic, arithmetic_inputs, arithmetic_outputs, arithmetic_words}
 
@@ -46,6 +46,21 @@ output_widths (Memory form) = memory.output_widths form
 abbrev pub HasState : Shape → State → Type 0
 HasState (Memory form) state = HasShape form state
 HasState _ state = state ≡ NoWord
+
+-- words that a shape can hold
+abbrev pub AreHeld : Shape → List Word → Type 0
+AreHeld (Memory form) words = memory.AreHeld form words
+AreHeld _ words = words ≡ []
+
+-- a gate of several inputs has those that it needs
+abbrev pub HasInputs : Shape → Bool → List Bool → Type 0
+HasInputs (Gate gate) strict attached = gates.HasInputs gate strict attached
+HasInputs _ strict attached = Unit
+
+-- the inputs that a shape reads are defined
+abbrev pub ReadsDefined : Shape → List Bool → List Word → Type 0
+ReadsDefined (Gate gate) attached inputs = gates.ReadsDefined gate attached inputs
+ReadsDefined _ attached inputs = All IsDefined inputs
 
 -- the words at the outputs, from the words that are held and those of the inputs
 abbrev pub output_words : Shape → Bool → List Bool → List Word → List Word → List Word

@@ -2,7 +2,7 @@
 -- Library (Constant, Power, Ground, Bit Extender).
 use Rattle.std.specs.Prelude.{ℕ, ◌≤◌, List, [], ◌∷◌, length, replicate}
 use Rattle.lg_value.specs.declared.bit.Bit.TheVariants as bit
-use Rattle.lg_value.specs.Word.{IsWidth}
+use Rattle.lg_value.specs.Word.{IsWidth, IsDefined}
 use Rattle.lg_arith.specs.declared.extension.Extend.{Extend}
 use Rattle.lg_arith.specs.declared.extension.Extend.TheVariants as extend
 use Rattle.lg_arith.specs.Extend.{extended}
@@ -12,9 +12,9 @@ use Rattle.lg_shapes.specs.declared.wiring.Extension.TheVariants.{Zero, One, Sig
 use Rattle.lg_shapes.specs.declared.wiring.Wiring.{Wiring}
 use Rattle.lg_shapes.specs.declared.wiring.Wiring.TheVariants.{Constant, Power, Ground, BitExtender}
 
--- widths in their range
+-- widths in their range, and each bit of a constant 0 or 1
 abbrev pub IsWiring : Wiring → Type 0
-IsWiring (Constant value) = IsWidth (length value)
+IsWiring (Constant value) = IsWidth (length value) × IsDefined value
 IsWiring (Power width) = IsWidth width
 IsWiring (Ground width) = IsWidth width
 IsWiring (BitExtender from to extension) = IsWidth from × IsWidth to
