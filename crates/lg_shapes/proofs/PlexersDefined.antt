@@ -18,7 +18,7 @@ use Rattle.lg_shapes.specs.declared.plexers.Disabled.{Disabled}
 use Rattle.lg_shapes.specs.declared.plexers.Disabled.TheVariants.{Float, Zero}
 use Rattle.lg_shapes.specs.declared.plexers.Plexer.{Plexer}
 use Rattle.lg_shapes.specs.declared.plexers.Plexer.TheVariants.{Multiplexer, Demultiplexer, Decoder, PriorityEncoder, BitSelector}
-use Rattle.lg_shapes.specs.Plexers.{IsPlexer, enable_width, select_width, plexer_inputs, plexer_words, under_enable, off_bit, off_line, demultiplexed, decoded, first_bits}
+use Rattle.lg_shapes.specs.Plexers.{IsPlexer, enable_width, plexer_inputs, plexer_words, under_enable, off_bit, off_line, demultiplexed, decoded, first_bits}
 use Rattle.lg_shapes.specs.Reads.{is_driven, is_plexer_exportable}
 use Rattle.lg_shapes.proofs.InputLemmas.{length-take_of, length-behind, length-select, widths-take}
 

@@ -8,7 +8,7 @@ use Rattle.lg_gates.specs.Plexer.{pick_word, spread_word, enabled_word}
 use Rattle.lg_gates.proofs.Widths.{length-gate_word, length-not_word, length-buffer_word, length-shape_word, length-controlled_word, length-pick_word, length-spread_word, length-enabled_word, length-address, length-group_word}
 use Rattle.lg_value.specs.declared.bit.Bit.{Bit}
 use Rattle.lg_value.specs.declared.bit.Bit.TheVariants as bit
-use Rattle.lg_arith.specs.Count.{least_width}
+use Rattle.lg_arith.specs.Count.{least_width, select_width}
 use Rattle.lg_arith.proofs.CountLemmas.{length-count_of}
 use Rattle.lg_arith.proofs.ExtendLemmas.{length-extended}
 use Rattle.lg_arith.proofs.ProductLemmas.{length-low_product_of, length-high_product_of}
@@ -32,7 +32,7 @@ use Rattle.lg_shapes.specs.declared.arithmetic.Arithmetic.{Arithmetic as Arithme
 use Rattle.lg_shapes.specs.declared.arithmetic.Arithmetic.TheVariants.{Adder, Subtractor, Multiplier, Divider, Negator, Comparator, Shifter, BitAdder}
 use Rattle.lg_shapes.specs.Wiring.{wiring_inputs, wiring_outputs, wiring_words, extension_of}
 use Rattle.lg_shapes.specs.Gates.{gate_inputs, gate_outputs, gate_words, logic_word, read_inputs}
-use Rattle.lg_shapes.specs.Plexers.{IsPlexer, enable_width, select_width, plexer_inputs, plexer_outputs, plexer_words, under_enable, off_bit, off_line, multiplexed, demultiplexed, decoded, first_bits}
+use Rattle.lg_shapes.specs.Plexers.{IsPlexer, enable_width, plexer_inputs, plexer_outputs, plexer_words, under_enable, off_bit, off_line, multiplexed, demultiplexed, decoded, first_bits}
 use Rattle.lg_shapes.specs.Arithmetic.{arithmetic_inputs, arithmetic_outputs, arithmetic_words}
 use Rattle.lg_shapes.specs.Shapes.{IsShape, AreHeld, input_widths, output_widths, output_words}
 use Rattle.lg_shapes.proofs.InputLemmas.{sum_by-length, length-take_of, one_width-take, first_width-take, length-select}

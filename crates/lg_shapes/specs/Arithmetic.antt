@@ -2,14 +2,13 @@
 -- Library.
 use Rattle.std.specs.Prelude.{ℕ, ◌*◌, Bool, true, false, List, [], ◌∷◌, replicate}
 use Rattle.lg_value.specs.Word.{IsWidth}
-use Rattle.lg_arith.specs.Count.{least_width, count_of}
+use Rattle.lg_arith.specs.Count.{least_width, select_width, count_of}
 use Rattle.lg_arith.specs.Order.{greater_of, equal_of, less_of}
 use Rattle.lg_arith.specs.Product.{low_product_of, high_product_of}
 use Rattle.lg_arith.specs.Quotient.{quotient_of, remainder_of}
 use Rattle.lg_arith.specs.Shift.{shift_of}
 use Rattle.lg_arith.specs.Sum.{sum_of, carry_of, difference_of, borrow_of, negation_of}
 use Rattle.lg_memory.specs.Inputs.{Word, word_at, bit_at}
-use Rattle.lg_shapes.specs.Plexers.{select_width}
 use Rattle.lg_shapes.specs.declared.arithmetic.Mode.{Mode}
 use Rattle.lg_shapes.specs.declared.arithmetic.Mode.TheVariants.{Unsigned, TwosComplement}
 use Rattle.lg_shapes.specs.declared.arithmetic.Arithmetic.{Arithmetic}

@@ -1,6 +1,6 @@
 -- Plexers: their ports and what they answer. Source: the library reference of Logisim-evolution, Plexers Library (the
 -- attributes Three-state, Include Enable and Disabled Output).
-use Rattle.std.specs.Prelude.{ℕ, ◌+◌, ◌-◌, ◌/◌, ◌^◌, ◌≤◌, max, Bool, true, false, if◌then◌else◌, List, [], ◌∷◌, ◌++◌, length, map, replicate, take, slice_index_or}
+use Rattle.std.specs.Prelude.{ℕ, ◌+◌, ◌^◌, ◌≤◌, Bool, true, false, if◌then◌else◌, List, [], ◌∷◌, ◌++◌, length, map, replicate, take, slice_index_or}
 use Rattle.std.specs.List.{range_with_len}
 use Rattle.lg_value.specs.declared.bit.Bit.{Bit}
 use Rattle.lg_value.specs.declared.bit.Bit.TheVariants as bit
@@ -8,7 +8,7 @@ use Rattle.lg_value.specs.Word.{IsWidth}
 use Rattle.lg_gates.specs.Plexer.{pick_word, spread_word, enabled_word}
 use Rattle.lg_gates.specs.Priority.{priority_of}
 use Rattle.lg_gates.specs.Selector.{group_word}
-use Rattle.lg_arith.specs.Count.{least_width}
+use Rattle.lg_arith.specs.Count.{select_width}
 use Rattle.lg_memory.specs.Inputs.{Word, word_at, bit_at}
 use Rattle.lg_shapes.specs.declared.plexers.Disabled.{Disabled}
 use Rattle.lg_shapes.specs.declared.plexers.Disabled.TheVariants.{Float, Zero}
@@ -31,10 +31,6 @@ IsPlexer (BitSelector width group) = IsWidth width × (1 ≤ group) × (group �
 abbrev pub enable_width : Bool → List ℕ
 enable_width true = 1 ∷ []
 enable_width false = []
-
--- how many bits number the groups of so many bits in a word, at least 1
-abbrev pub select_width : ℕ → ℕ → ℕ
-select_width group width = max (least_width ((width - 1) / max group 1)) 1
 
 -- the widths of a priority encoder's outputs
 abbrev pub encoder_widths : ℕ → List ℕ
