@@ -8,7 +8,7 @@ ghost use Rattle.lg_ports.specs.Contents.{IsContents, AreContents, HasContents, 
 use lg_memory::{ImageFault, are_words, read_number, read_words};
 use std::alloc::{AllocError, Global};
 
-// Whether a text is the contents of a ROM with these widths.
+/// Whether a text is the contents of a ROM with an address and words of these widths.
 pub fn is_contents(text: &[u8], address: u32, width: u32) -> bool
     ensures { IsTrue result ↔ IsContents address width text.now }
 {

@@ -16,7 +16,7 @@ use std::alloc::{AllocError, Global};
 // The greatest number that is read; no attribute has a greater one in its range.
 const MOST: u64 = 99;
 
-// A component: its kind, its attributes, and the table that replaces what they leave out.
+/// A component: its kind, its attributes, and the table that replaces what they leave out.
 #[derive(Drop)]
 pub struct Given<'a> {
     pub kind: Kind,
@@ -25,7 +25,7 @@ pub struct Given<'a> {
 }
 
 impl<'a> Given<'a> {
-    // The value of an attribute of a row, under its own name: its own, or that of the table, or the usual one.
+    /// The value of an attribute of a row, under its own name: its own, or that of the table, or the usual one.
     pub fn value_of(&self, row: &AttributeRow, name: &str) -> Option<&'a str>
         ensures { option_map (λ (t : Bor (List ℕ)). t.now) result ≡ value_of (seen_given self.now) (seen_attribute row.now) name.now }
     {
@@ -38,7 +38,7 @@ impl<'a> Given<'a> {
         }
     }
 
-    // The value of the attribute that has this name in the kind's table.
+    /// The value of the attribute that has this name in the kind's table.
     pub fn value(&self, name: &str) -> Option<&'a str>
         ensures { option_map (λ (t : Bor (List ℕ)). t.now) result ≡ value (seen_given self.now) name.now }
     {
@@ -48,7 +48,7 @@ impl<'a> Given<'a> {
         }
     }
 
-    // The number that an attribute has, 0 where it has none.
+    /// The number that an attribute has, 0 where it has none.
     pub fn number(&self, name: &str) -> u32
         ensures number { result ≡ number (seen_given self.now) name.now }
         ensures small { result ≤ 99 }
@@ -59,7 +59,7 @@ impl<'a> Given<'a> {
         }
     }
 
-    // Whether an attribute has this value.
+    /// Whether an attribute has this value.
     pub fn is(&self, name: &str, word: &str) -> bool
         ensures { result ≡ is_said (seen_given self.now) name.now word.now }
     {
@@ -69,7 +69,7 @@ impl<'a> Given<'a> {
         }
     }
 
-    // How it faces; nothing where its kind does not say.
+    /// How it faces; nothing where its kind does not say.
     pub fn facing(&self) -> &'a str
         ensures { result.now ≡ facing_of (seen_given self.now) }
     {
@@ -79,7 +79,7 @@ impl<'a> Given<'a> {
         }
     }
 
-    // The value of attribute number `k` of the row that has this name in the kind's table.
+    /// The value of attribute number `k` of the row that has this name in the kind's table.
     pub fn numbered_value(
         &self,
         alloc: Global,
@@ -97,7 +97,7 @@ impl<'a> Given<'a> {
         }
     }
 
-    // How often a row stands for an attribute or a port.
+    /// How often a row stands for an attribute or a port.
     pub fn count(&self, count: Count) -> u32
         ensures count { result ≡ count_of (seen_given self.now) count }
         ensures small { result ≤ 99 }
@@ -127,7 +127,7 @@ impl<'a> Given<'a> {
         }
     }
 
-    // How many numbers the select has.
+    /// How many numbers the select has.
     pub fn selections(&self) -> u32
         ensures count { result ≡ selections (seen_given self.now) }
         ensures small { result ≤ 32 }

@@ -14,7 +14,7 @@ mod size;
 mod splitter;
 mod splitter_place;
 
-pub use contents::contents_of;
+pub use contents::{contents_of, is_contents};
 pub use delays::delay;
 pub use given::Given;
 pub use lg_attrs::Attrs;
