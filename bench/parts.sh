@@ -9,12 +9,12 @@ name=bench_parts
 # Builds a program that reads a port table and asks for the ports of so many components, over a copy of the repository and
 # outside it, and runs it.
 build() {
-  build_program "lg_io lg_parts lg_kinds lg_attrs lg_text sqlite_items" "$1" 1 <<'PROGRAM'
+  build_program "lg_io lg_ports lg_kinds lg_attrs lg_text sqlite_items" "$1" 1 <<'PROGRAM'
 //! Reads a port table, asks for the ports of so many components, and says by its status whether all have some.
 #![tactic(auto)]
 
 use lg_io::{Files, HostFiles};
-use lg_parts::{Attrs, Kind, PortTable, ports, read_port_table};
+use lg_ports::{Attrs, Kind, PortTable, ports, read_port_table};
 use sqlite_items::Items;
 use std::alloc::Global;
 use std::env;

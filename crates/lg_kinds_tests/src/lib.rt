@@ -7,3 +7,5 @@ mod attrs;
 mod kinds;
 #[cfg(test)]
 mod parts;
+#[cfg(test)]
+mod shapes;

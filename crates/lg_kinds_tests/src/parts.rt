@@ -13,7 +13,7 @@ use self::port_lists::PORT_LISTS;
 use self::ranges::RANGES;
 use lg_kinds::rows::Count;
 use lg_kinds::{entry, name_at};
-use lg_parts::{
+use lg_ports::{
     Attrs, Kind, Loose, PartFault, Port, PortTable, Side, delay, kind_of, ports, read_port_table,
 };
 use lg_text::Text;

@@ -26,21 +26,26 @@ use Rattle.lg_memory.proofs.NumberLemmas.{defined_is, is_defined, test-IsDefined
 use Rattle.lg_memory.proofs.CaseLemmas.{loads_or_counts-any, registered-any, words_after-any}
 use Rattle.lg_memory.proofs.ShapeLemmas.{length-word_at, loads_or_shifts-any}
 
-abbrev IsBit : Bit → Type 0
+-- a bit is 0 or 1
+abbrev pub IsBit : Bit → Type 0
 IsBit bit = (bit ≡ Zero) ⊎ (bit ≡ One)
 
-one_defined : (word : Word) → IsDefined word → All IsDefined (word ∷ [])
+-- one defined word
+pub one_defined : (word : Word) → IsDefined word → All IsDefined (word ∷ [])
 one_defined word h = All-cons IsDefined word [] h (All-nil IsDefined)
 
-one_bit : (b : Bit) → IsBit b → IsDefined (b ∷ [])
+-- a word of one defined bit
+pub one_bit : (b : Bit) → IsBit b → IsDefined (b ∷ [])
 one_bit b h = All-cons IsBit b [] h (All-nil IsBit)
 
-IsDefined-word_at : (words : List Word) (place : ℕ) → All IsDefined words → IsDefined (word_at words place)
+-- a word of defined words
+pub IsDefined-word_at : (words : List Word) (place : ℕ) → All IsDefined words → IsDefined (word_at words place)
 IsDefined-word_at [] place h = All-nil IsBit
 IsDefined-word_at (w ∷ words) zero h = All-head IsDefined w words h
 IsDefined-word_at (w ∷ words) (suc place) h = IsDefined-word_at words place (All-tail IsDefined w words h)
 
-IsBit-bit_at : (words : List Word) (place : ℕ) → 0 < length (word_at words place) → All IsDefined words → IsBit (bit_at words place)
+-- the lowest bit of one
+pub IsBit-bit_at : (words : List Word) (place : ℕ) → 0 < length (word_at words place) → All IsDefined words → IsBit (bit_at words place)
 IsBit-bit_at words place some h = IsDefined-word_at words place h 0 Unknown some
 
 toggled-defined : (q t : Bit) → is_defined_bit q ≡ true → is_defined_bit t ≡ true → is_defined_bit (toggled q t) ≡ true

@@ -35,9 +35,30 @@ pub fn read_image(
         → (all : List ℕ) × IsImage width bytes.now all × (words < length all) }
 {
     match after_header(bytes) {
-        Some(text) => read_words(alloc, text, greatest(width), words as usize),
+        Some(text) => read_words(alloc, text, width, words),
         None => Err(ImageFault::NotImage),
     }
+}
+
+/// The words that a text is, as they stand behind the first line of a memory image, each of `width` bits. The width is 1
+/// to 64. There may be at most `words` words; those past that are read and not kept.
+pub fn read_words(
+    alloc: Global,
+    text: &[u8],
+    width: u32,
+    words: u32,
+) -> Result<Vec<u64>, ImageFault>
+    requires { IsWidth width }
+    ensures found { IfOk result (λ read. HasWords (2 ^ width) text.now read.items × (length read.items ≤ words)) }
+    ensures only { (all : List ℕ) → HasWords (2 ^ width) text.now all
+        → MatchResult result
+        (λ read. read.items ≡ all)
+        (λ e. (e ≡ NoMemory) ⊎ ((e ≡ ImageTooLong) × (words < length all))) }
+    ensures not_image { IsErrOf result NotImage → (all : List ℕ) → HasWords (2 ^ width) text.now all → ⊥ }
+    ensures too_long { IsErrOf result ImageTooLong
+        → (all : List ℕ) × HasWords (2 ^ width) text.now all × (words < length all) }
+{
+    bounded_words(alloc, text, greatest(width), words as usize)
 }
 
 /// Whether a text is words as they stand behind the first line of a memory image, each of `width` bits and at most `words`
@@ -90,7 +111,12 @@ fn after_header(bytes: &[u8]) -> Option<&[u8]>
 }
 
 // The words of a text, each at most `most`, if they are at most `limit`.
-fn read_words(alloc: Global, text: &[u8], most: u64, limit: usize) -> Result<Vec<u64>, ImageFault>
+fn bounded_words(
+    alloc: Global,
+    text: &[u8],
+    most: u64,
+    limit: usize,
+) -> Result<Vec<u64>, ImageFault>
     ensures found { IfOk result (λ read. HasWords (most + 1) text.now read.items × (length read.items ≤ limit)) }
     ensures only { (all : List ℕ) → HasWords (most + 1) text.now all
         → MatchResult result

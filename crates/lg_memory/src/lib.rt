@@ -20,7 +20,7 @@ mod transition;
 
 pub use fault::{ImageFault, Memory};
 pub use form::{FlipKind, Goal, StateForm, Trigger};
-pub use image::{are_words, read_image};
+pub use image::{are_words, read_image, read_words};
 pub use law::{
     a_repeated_step_changes_nothing, a_step_without_its_edge_changes_nothing,
     clear_and_preset_act_at_every_step, defined_inputs_give_defined_words, outputs_read_few_inputs,

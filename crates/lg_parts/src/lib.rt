@@ -1,23 +1,10 @@
-//! The ports and the delay that a component of a kind has with its attributes.
+//! Components and what they do. Each part stands in a crate of its own; this one hands them on.
 #![tactic(auto)]
 
-mod contents;
-mod delays;
-mod fan;
-mod gate;
-mod given;
-mod judge;
-mod listing;
-mod place;
-mod range;
-mod size;
-mod splitter;
-mod splitter_place;
-
-pub use delays::delay;
-pub use lg_attrs::Attrs;
-pub use lg_kinds::{
-    Kind, Loose, PartFault, Port, PortTable, Side, kind_name, kind_of, read_port_table,
+pub use lg_ports::{
+    Attrs, Given, Kind, Loose, PartFault, Port, PortTable, Side, contents_of, delay, is_contents,
+    kind_name, kind_of, literal_of, ports, read_port_table, turned,
 };
-pub use listing::ports;
-pub use place::turned;
+pub use lg_shapes::{
+    Arithmetic, ControlSide, Disabled, Extension, Gate, Mode, Plexer, SelectCorner, Shape, Wiring,
+};
