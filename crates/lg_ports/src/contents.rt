@@ -15,7 +15,8 @@ pub fn is_contents(text: &[u8], address: u32, width: u32) -> bool
     text.is_empty() || has_contents(text, address, width)
 }
 
-/// The words of a text that is the contents of a ROM with these widths. `Memory`: there was none.
+/// The words of a text that is the contents of a ROM with an address and words of these widths; the empty text has none.
+/// The only error is want of memory.
 pub fn contents_of(
     alloc: Global,
     text: &[u8],

@@ -13,7 +13,7 @@ use lg_kinds::{Kind, PortTable, entry, name_at};
 use lg_memory::read_number;
 use std::alloc::{AllocError, Global};
 
-// The greatest number that is read; no attribute has a greater one in its range.
+// The greatest number that is read so; the attributes that may have a greater one are read by `literal_of`.
 const MOST: u64 = 99;
 
 /// A component: its kind, its attributes, and the table that replaces what they leave out.
@@ -48,7 +48,8 @@ impl<'a> Given<'a> {
         }
     }
 
-    /// The number that an attribute has, 0 where it has none.
+    /// The number that an attribute has in decimal digits, 0 where it has none or one above 99. Those of 64 bits, `value` and
+    /// `max`, are for `literal_of`.
     pub fn number(&self, name: &str) -> u32
         ensures number { result ≡ number (seen_given self.now) name.now }
         ensures small { result ≤ 99 }

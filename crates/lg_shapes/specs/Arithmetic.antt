@@ -1,5 +1,5 @@
 -- Arithmetic: the ports of its parts and what they answer. Source: the library reference of Logisim-evolution, Arithmetic
--- Library.
+-- Library; order and ranges are this project's.
 use Rattle.std.specs.Prelude.{ℕ, ◌*◌, Bool, true, false, List, [], ◌∷◌, replicate}
 use Rattle.lg_value.specs.Word.{IsWidth}
 use Rattle.lg_arith.specs.Count.{least_width, select_width, count_of}

@@ -1,5 +1,5 @@
 -- Gates and buffers with a control: their ports and what they answer. Source: the library reference of Logisim-evolution,
--- Gates Library (the attributes Output Value and Negate).
+-- Gates Library (the attributes Output Value and Negate); order and ranges are this project's.
 use Rattle.std.specs.Prelude.{ℕ, ◌≡◌, ◌≤◌, Bool, true, false, List, [], ◌∷◌, length, map, replicate, Option, None, Some, slice_index_or, All}
 use Rattle.std.specs.List.{list_all, list_any, range_with_len}
 use Rattle.lg_value.specs.Word.{IsWidth, IsDefined}

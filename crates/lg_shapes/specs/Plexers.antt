@@ -1,5 +1,5 @@
 -- Plexers: their ports and what they answer. Source: the library reference of Logisim-evolution, Plexers Library (the
--- attributes Three-state, Include Enable and Disabled Output).
+-- attributes Three-state, Include Enable and Disabled Output); order and ranges are this project's.
 use Rattle.std.specs.Prelude.{ℕ, ◌+◌, ◌^◌, ◌≤◌, Bool, true, false, if◌then◌else◌, List, [], ◌∷◌, ◌++◌, length, map, replicate, take, slice_index_or}
 use Rattle.std.specs.List.{range_with_len}
 use Rattle.lg_value.specs.declared.bit.Bit.{Bit}

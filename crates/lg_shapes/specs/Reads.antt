@@ -17,7 +17,7 @@ use Rattle.lg_shapes.specs.declared.wiring.Wiring.TheVariants.{BitExtender}
 use Rattle.lg_shapes.specs.declared.shape.Shape.{Shape}
 use Rattle.lg_shapes.specs.declared.shape.Shape.TheVariants.{Wiring, Gate, Plexer, Arithmetic, Memory}
 
--- a bit extender reads `ext` where it extends
+-- a bit extender reads `ext` where its output is wider than its input
 abbrev pub wiring_reads : WiringOf → ℕ → Bool
 wiring_reads (BitExtender from to extension) input = (input == 0) || nat_lt from to
 wiring_reads _ input = true

@@ -1,5 +1,5 @@
 -- What each shape has and does: its ports, what it holds, what it answers and what that reads. Source: the library reference
--- of Logisim-evolution.
+-- of Logisim-evolution; order and ranges are this project's.
 use Rattle.std.specs.Prelude.{◌≡◌, ℕ, Bool, List, [], All}
 use Rattle.lg_value.specs.Word.{IsDefined}
 use Rattle.lg_memory.specs.declared.form.StateForm.{StateForm}
@@ -18,7 +18,7 @@ use Rattle.lg_shapes.specs.Gates as gates
 use Rattle.lg_shapes.specs.Plexers.{IsPlexer, plexer_inputs, plexer_outputs, plexer_words}
 use Rattle.lg_shapes.specs.Arithmetic.{IsArithmetic, arithmetic_inputs, arithmetic_outputs, arithmetic_words}
 
--- the numbers of a shape are in their ranges
+-- the numbers of a shape, on which its words depend, are in their ranges, and a constant is defined
 abbrev pub IsShape : Shape → Type 0
 IsShape (Wiring part) = IsWiring part
 IsShape (Gate gate) = IsGate gate

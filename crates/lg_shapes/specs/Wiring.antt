@@ -1,5 +1,5 @@
 -- Constants and bit extenders: their ports and what they answer. Source: the library reference of Logisim-evolution, Wiring
--- Library (Constant, Power, Ground, Bit Extender).
+-- Library (Constant, Power, Ground, Bit Extender); order and ranges are this project's.
 use Rattle.std.specs.Prelude.{ℕ, ◌≤◌, List, [], ◌∷◌, length, replicate}
 use Rattle.lg_value.specs.declared.bit.Bit.TheVariants as bit
 use Rattle.lg_value.specs.Word.{IsWidth, IsDefined}
@@ -19,7 +19,7 @@ IsWiring (Power width) = IsWidth width
 IsWiring (Ground width) = IsWidth width
 IsWiring (BitExtender from to extension) = IsWidth from × IsWidth to
 
--- the widths of the inputs; `ext` is there where it extends
+-- the widths of the inputs; `ext` is there where the extension is an input
 abbrev pub wiring_inputs : Wiring → List ℕ
 wiring_inputs (Constant value) = []
 wiring_inputs (Power width) = []
@@ -34,10 +34,10 @@ wiring_outputs (Power width) = width ∷ []
 wiring_outputs (Ground width) = width ∷ []
 wiring_outputs (BitExtender from to extension) = to ∷ []
 
--- `ext` has a bit, where it extends
-abbrev pub IsExtended : Extension → List Word → Type 0
-IsExtended Input inputs = 1 ≤ length (word_at inputs 1)
-IsExtended extension inputs = Unit
+-- `ext` has a bit, where the extension is an input
+abbrev pub HasExtension : Extension → List Word → Type 0
+HasExtension Input inputs = 1 ≤ length (word_at inputs 1)
+HasExtension extension inputs = Unit
 
 -- what stands in the added places
 abbrev pub extension_of : Extension → List Word → Extend

@@ -36,7 +36,7 @@ pub enum Arithmetic {
 
 impl Arithmetic {
     // The word at an output.
-    pub fn out(&self, inputs: &[Word], output: u32) -> Word
+    pub fn answer(&self, inputs: &[Word], output: u32) -> Word
         requires ranges { IsArithmetic self.now }
         requires inputs { map length inputs.now ≡ arithmetic_inputs self.now }
         requires output { output < length (arithmetic_outputs self.now) }

@@ -50,7 +50,7 @@ pub enum Gate {
 
 impl Gate {
     // The word at the output.
-    pub fn out(&self, strict: bool, attached: &[bool], inputs: &[Word]) -> Word
+    pub fn answer(&self, strict: bool, attached: &[bool], inputs: &[Word]) -> Word
         requires ranges { IsGate self.now }
         requires attached { length attached.now ≡ length (gate_inputs self.now) }
         requires inputs { map length inputs.now ≡ gate_inputs self.now }

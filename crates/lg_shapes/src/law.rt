@@ -4,10 +4,12 @@ ghost use Rattle.std.specs.Prelude.{◌≡◌, ℕ, true, false, Bool, List, [],
 ghost use Rattle.lg_value.specs.declared.bit.Bit.TheVariants.{Zero as Low, One as High};
 ghost use Rattle.lg_value.specs.Word.{IsDefined};
 ghost use Rattle.lg_memory.specs.declared.form.Trigger.TheVariants.{Rising, Falling};
+ghost use Rattle.lg_memory.specs.declared.state.State.{State as Held};
+ghost use Rattle.lg_memory.specs.declared.state.State.TheVariants.{None as NoWord};
 ghost use Rattle.lg_memory.specs.Inputs.{Word, bit_at, word_at};
 ghost use Rattle.lg_memory.specs.Controls.{is_one};
 ghost use Rattle.lg_shapes.specs.declared.shape.Shape.{Shape as Form};
-ghost use Rattle.lg_shapes.specs.Shapes.{IsShape, AreHeld, HasInputs, ReadsDefined, input_widths, output_widths, output_words, stepped, start_words};
+ghost use Rattle.lg_shapes.specs.Shapes.{IsShape, HasState, AreHeld, HasInputs, ReadsDefined, input_widths, output_widths, output_words, stepped, start_words};
 ghost use Rattle.lg_shapes.specs.Reads.{reads, is_exportable, clock_of, clear_of, preset_of};
 
 /// A law: a step that ends in the inputs at which it begins changes nothing, once a step has come to them.
@@ -38,8 +40,8 @@ pub fn defined_gives_defined()
     ensures start { (shape : Form) → All IsDefined (start_words shape) }
 {}
 
-/// A law: where neither clear nor preset is 1, a part keeps its words in a step without its edge, and a part without a
-/// clock keeps them in each.
+/// A law: where neither clear nor preset is 1, a part keeps its words in a step without its edge. A part without a clock
+/// keeps them in each, and holds nothing.
 pub fn a_step_without_its_edge_changes_nothing()
     ensures rising { (shape : Form) (words old new : List Word) (clock : ℕ)
         → clock_of shape ≡ Some (Rising, clock) → ¬ ((bit_at old clock ≡ Low) × (bit_at new clock ≡ High))
@@ -51,6 +53,8 @@ pub fn a_step_without_its_edge_changes_nothing()
         → stepped shape words old new ≡ words }
     ensures unclocked { (shape : Form) (words old new : List Word)
         → clock_of shape ≡ None → stepped shape words old new ≡ words }
+    ensures stateless { (shape : Form) (state : Held)
+        → clock_of shape ≡ None → HasState shape state → state ≡ NoWord }
 {}
 
 /// A law: once clear is 1 every word is 0, and once preset is 1 and clear is not, the word is 1.

@@ -65,7 +65,7 @@ pub enum Plexer {
 
 impl Plexer {
     // The word at an output.
-    pub fn out(&self, inputs: &[Word], output: u32) -> Word
+    pub fn answer(&self, inputs: &[Word], output: u32) -> Word
         requires ranges { IsPlexer self.now }
         requires inputs { map length inputs.now ≡ plexer_inputs self.now }
         requires output { output < length (plexer_outputs self.now) }

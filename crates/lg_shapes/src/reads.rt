@@ -14,7 +14,7 @@ use lg_memory::{FlipKind, StateForm, Trigger};
 
 impl Shape {
     /// Whether an output reads an input at once, without a step: of a state kind the carry of a counter reads `ud`, what a
-    /// memory reads out goes by its address, and no other output reads any; a bit extender reads `ext` where it extends;
+    /// memory reads out goes by its address, and no other output reads any; a bit extender reads `ext` where its output is wider;
     /// all others read every input.
     pub fn reads(&self, output: u32, input: u32) -> bool
         ensures { result ≡ reads self.now output input }
@@ -26,7 +26,7 @@ impl Shape {
         }
     }
 
-    /// Whether a module can be written for it: nothing in it floats.
+    /// Whether nothing in it floats, without which no module can be written for it.
     pub fn exportable(&self) -> bool
         ensures { result ≡ is_exportable self.now }
     {

@@ -12,8 +12,9 @@ use lg_memory::{Memory, State, StateForm};
 use lg_value::Word;
 use std::alloc::Global;
 
-/// What a part is by its attributes, as they are read: by the library that it stands in, a variant for each of its kinds,
-/// with a field for each attribute that is left to say.
+/// What a part is by its attributes, as they are read: a variant for each library, and below it one for each of its kinds,
+/// with a field for each attribute that has more than one value. Gates of several inputs are one variant, and so are
+/// flip-flops, each with its kind as a field.
 #[derive(Debug, Drop)]
 pub enum Shape {
     Wiring(Wiring),
@@ -24,11 +25,12 @@ pub enum Shape {
 }
 
 impl Shape {
-    /// The word at an output, from what the part holds and the words of its inputs; a gate leaves out the inputs that are
-    /// not attached, and with `strict` it is in error where there are some.
+    /// The word at an output, from what the part holds and the words of its inputs. A gate of several inputs leaves out those
+    /// that are not attached; it is in error where none is, and with `strict` where some are not. For an input of another part
+    /// to which nothing is attached the caller gives the word that is read there.
     ///
-    /// The numbers of the shape are in their ranges, the state is one of the shape, there is a word for each input, in its
-    /// port's width, and there is such an output.
+    /// The numbers of the shape are in their ranges, the state is one of the shape, there is a flag and a word for each input,
+    /// the word in its port's width, and there is such an output.
     pub fn out(
         &self,
         strict: bool,
@@ -46,10 +48,10 @@ impl Shape {
         ensures width { slice_get (output_widths self.now) output ≡ Some (length result) }
     {
         match self {
-            Shape::Wiring(part) => part.out(inputs),
-            Shape::Gate(gate) => gate.out(strict, attached, inputs),
-            Shape::Plexer(plexer) => plexer.out(inputs, output),
-            Shape::Arithmetic(part) => part.out(inputs, output),
+            Shape::Wiring(part) => part.answer(inputs),
+            Shape::Gate(gate) => gate.answer(strict, attached, inputs),
+            Shape::Plexer(plexer) => plexer.answer(inputs, output),
+            Shape::Arithmetic(part) => part.answer(inputs, output),
             Shape::Memory(form) => lg_memory::out(form, state, inputs, output),
         }
     }

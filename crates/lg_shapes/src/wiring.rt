@@ -1,7 +1,7 @@
 //! Constants and bit extenders.
 
 ghost use Rattle.std.specs.Prelude.{◌≡◌, [], ◌∷◌, length, map};
-ghost use Rattle.lg_shapes.specs.Wiring.{IsWiring, IsExtended, wiring_inputs, wiring_outputs, extension_of, wiring_words};
+ghost use Rattle.lg_shapes.specs.Wiring.{IsWiring, HasExtension, wiring_inputs, wiring_outputs, extension_of, wiring_words};
 
 use crate::inputs::bit_at;
 use lg_arith::{Extend, extend};
@@ -40,7 +40,7 @@ pub enum Wiring {
 
 impl Wiring {
     // The word at the output.
-    pub fn out(&self, inputs: &[Word]) -> Word
+    pub fn answer(&self, inputs: &[Word]) -> Word
         requires ranges { IsWiring self.now }
         requires inputs { map length inputs.now ≡ wiring_inputs self.now }
         ensures word { wiring_words self.now inputs.now ≡ result ∷ [] }
@@ -61,7 +61,7 @@ impl Wiring {
 
 // What stands in the added places.
 fn extension_of(extension: Extension, inputs: &[Word]) -> Extend
-    requires { IsExtended extension inputs.now }
+    requires { HasExtension extension inputs.now }
     ensures { result ≡ extension_of extension inputs.now }
 {
     match extension {
